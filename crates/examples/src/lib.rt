@@ -1,0 +1,1 @@
+// Document 01's examples, proved as one table: specs/ alone.

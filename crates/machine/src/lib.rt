@@ -1,0 +1,1 @@
+// The plain machine. The definitions are in specs/.

@@ -1,0 +1,12 @@
+pub mod Limits
+pub mod Verdicts
+pub mod Reading
+pub mod Names
+pub mod Descriptors
+pub mod Pool
+pub mod Members
+pub mod Bundle
+pub mod BuiltIns
+pub mod Program
+pub mod Link
+pub mod Computing

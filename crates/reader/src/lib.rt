@@ -1,0 +1,1 @@
+// Phases A and B: bytes to a program. The definitions are in specs/.

@@ -1,0 +1,13 @@
+pub mod Instruction
+pub mod Resolve
+pub mod Opcodes
+pub mod Types
+pub mod States
+pub mod Lines
+pub mod Shape
+pub mod Frames
+pub mod Rule
+pub mod Walk
+pub mod Verify
+pub mod Computing
+pub mod Laws

@@ -1,0 +1,1 @@
+// Phases C and D. The definitions are in specs/.
