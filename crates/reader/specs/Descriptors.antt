@@ -28,8 +28,11 @@ abbrev pub methodType : List Desc → List Desc → MethodType
 methodType ps rs = record { params = ps; results = rs }
 
 -- a name runs to the first ;
+unfoldable pub inName : Text → ℕ → Bool
+inName t i = not (eqb (getD t i 0) 59)
+
 unfoldable pub semicolon : Text → ℕ → ℕ
-semicolon t q = firstNot (λ i. not (eqb (getD t i 0) 59)) (length t - q) q
+semicolon t q = firstNot (inName t) (length t - q) q
 
 -- `number` says which class a name means; whatever is malformed is 7 at p
 module _ (number : Text → ℕ) (t : Text) (p : ℕ) where

@@ -1,6 +1,8 @@
 pub mod Limits
 pub mod Verdicts
 pub mod Reading
+pub mod Answers
+pub mod Ends
 pub mod Names
 pub mod Descriptors
 pub mod Pool

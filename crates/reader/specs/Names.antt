@@ -29,8 +29,11 @@ plain b =
     cond (eqb b 46) false (cond (eqb b 59) false (cond (eqb b 91) false (cond (eqb b slash) false (cond (eqb b 60) false (cond (eqb b 62) false true)))))
 
 -- an unqualified name: not empty, of plain bytes
+unfoldable pub plainAt : Text → ℕ → Bool
+plainAt t i = plain (getD t i 0)
+
 unfoldable pub unqualified : Text → Bool
-unqualified t = cond (eqb (length t) 0) false (allOf (λ i. plain (getD t i 0)) (length t))
+unqualified t = cond (eqb (length t) 0) false (allOf (plainAt t) (length t))
 
 -- a / stands between two parts that are not empty
 unfoldable pub classByte : Text → ℕ → Bool

@@ -1,0 +1,1 @@
+// Soundness: theorems alone, in specs/.
