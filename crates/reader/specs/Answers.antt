@@ -3,6 +3,7 @@
 use Prim.Native.Nat.{ℕ}
 use mathlib.Core.Path.{_≡_, sym, ap, _∙_}
 use mathlib.Core.Bool.{Bool, true, false, cond, not}
+use lib.Dec.{ltb}
 use borrow.Author.Tests.{not-true, not-false}
 use Rattle.kit.specs.Pick.{calls}
 use Rattle.reader.specs.Reading.{Res, ok, bad, andThen}
@@ -52,5 +53,8 @@ same-ok {A} v w e p = ap (λ (n : A). ok n e) p
 
 pub same-bad : {A : Type 0} (n m p q : ℕ) → n ≡ m → p ≡ q → _≡_ {A = Res A} (bad n p) (bad m q)
 same-bad n m p q d e = cc
+
+pub ltb-via : (k a b : ℕ) → k ≡ a → ltb k b ≡ ltb a b
+ltb-via k a b e = ap (λ (n : ℕ). ltb n b) e
 
 pub ruleset reads = (t-ok, t-bad, t-stop, calls, same-ok, same-bad)

@@ -3,9 +3,13 @@ pub mod Verdicts
 pub mod Reading
 pub mod Answers
 pub mod Ends
+pub mod Loops
 pub mod Names
 pub mod Descriptors
+pub mod Shapes
+pub mod Counted
 pub mod Pool
+pub mod Table
 pub mod Members
 pub mod Bundle
 pub mod BuiltIns

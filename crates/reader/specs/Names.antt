@@ -4,6 +4,7 @@ use mathlib.Core.List.{List, [], _∷_}
 use mathlib.Core.Bool.{Bool, true, false, cond, not}
 use lib.ListN.{length, getD}
 use lib.Dec.{ltb, eqb}
+use mathlib.Core.Path.{_≡_, ap, _∙_}
 use Rattle.kit.specs.Scan.{allOf}
 use Rattle.kit.specs.Lists.{eqList}
 
@@ -48,3 +49,7 @@ isInit t = eqList t init
 
 unfoldable pub methodName : Text → Bool
 methodName t = cond (isInit t) true (unqualified t)
+
+-- ---- laws
+pub plain-via : (r : Bool) (k b : ℕ) → r ≡ plain k → k ≡ b → r ≡ plain b
+plain-via r k b h e = h ∙ ap plain e

@@ -1,2 +1,5 @@
 // Phases A and B: bytes to a program. The definitions are in specs/.
+pub mod descriptors;
 pub mod items;
+pub mod names;
+pub mod pool;

@@ -6,3 +6,8 @@ pub mod Tables
 pub mod Classes
 pub mod Layout
 pub mod Lookup
+pub mod Resolution
+pub mod Parsing
+pub mod Files
+pub mod Linking
+pub mod Cells

@@ -1,0 +1,2 @@
+-- What the proofs of this room share.
+pub mod Asked
