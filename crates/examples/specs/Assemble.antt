@@ -1,5 +1,5 @@
 -- Whole bundles for document 01's examples: one class `A` under Object with one method.
-use Prim.Native.Nat.{ℕ, _+_, _*_, _/_, _%_}
+use Prim.Native.Nat.{ℕ, _/_, _%_}
 use mathlib.Core.List.{List, [], _∷_, _++_}
 use lib.ListN.{length}
 use Rattle.reader.specs.Names.{Text, init, Code, StackMapTable}

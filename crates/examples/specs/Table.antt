@@ -1,19 +1,19 @@
 -- Document 01's examples at the edges, those marked P: one table under a single claim, over whole bundles in bytes.
 use Prim.Native.Nat.{ℕ}
 use mathlib.Core.Path.{_≡_, refl, ap, _∙_}
-use mathlib.Core.Bool.{Bool, true, false, cond}
+use mathlib.Core.Bool.{true}
 use mathlib.Core.List.{List, [], _∷_, _++_}
 use Rattle.reader.specs.Limits.{unnamed}
 use Rattle.reader.specs.Verdicts.{numbers}
 use Rattle.reader.specs.Computing.{reading}
 use Rattle.verifier.specs.Verify.{verdictOf}
 use Rattle.verifier.specs.Computing.{verifying}
-use Rattle.machine.specs.Run.{Lent, Outcome, sizesOk, Answer, answerOf, answerNumbers, runOf}
+use Rattle.machine.specs.Run.{Lent, sizesOk, answerOf, answerNumbers, noVerdict, runOf}
 use Rattle.machine.specs.Computing.{running}
 use Rattle.machine.specs.Laws.{run-answer}
-use Rattle.examples.specs.Assemble.{Frames, noFrames, frames, static, constructor, noArguments, objectName}
+use Rattle.examples.specs.Assemble.{noFrames, frames, static, constructor, noArguments, objectName}
 
--- arguments, budget, lent cells; refusal, end, value, count, cells used
+-- arguments, budget, lent cells; the nine numbers of the answer
 pub record Run : Type 0 where
   pub arguments : List ℕ
   pub budget : ℕ
@@ -48,10 +48,10 @@ abbrev run : List ℕ → ℕ → List ℕ → Run
 run args budget answer = record { arguments = args; budget = budget; cells = []; answer = answer }
 
 abbrev returns : ℕ → ℕ → List ℕ
-returns value count = 0 ∷ 1 ∷ value ∷ count ∷ 0 ∷ []
+returns value count = 0 ∷ 1 ∷ value ∷ count ∷ 0 ∷ noVerdict
 
 abbrev outOfSteps : ℕ → List ℕ
-outOfSteps count = 0 ∷ 3 ∷ 0 ∷ count ∷ 0 ∷ []
+outOfSteps count = 0 ∷ 3 ∷ 0 ∷ count ∷ 0 ∷ noVerdict
 
 abbrev case : List ℕ → List ℕ → List Run → Case
 case s v rs = record { bytes = s; verdict = v; runs = rs }

@@ -1,9 +1,9 @@
 -- The heap in cells: objects and arrays as document 01 lays them out; values, and which fits where.
 use Prim.Native.Nat.{ℕ, zero, suc, _+_, _-_, _^_}
 use mathlib.Core.Bool.{Bool, true, false, cond}
-use mathlib.Core.List.{List, [], _∷_, _++_, map}
+use mathlib.Core.List.{List, [], _∷_, _++_}
 use lib.ListN.{length, getD, take, drop, set, replicate}
-use lib.Dec.{ltb, leb, eqb}
+use lib.Dec.{leb, eqb}
 use Rattle.reader.specs.Descriptors.{Ref, cls, arr, Desc, dint, dref, dimensions}
 use Rattle.reader.specs.Program.{Program}
 use Rattle.verifier.specs.Types.{refFits}

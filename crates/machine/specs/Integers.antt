@@ -1,6 +1,6 @@
 -- 32-bit integers as cells: two's complement bits, sums and products wrap, division truncates toward zero.
-use Prim.Native.Nat.{ℕ, zero, suc, _+_, _-_, _*_, _/_, _%_, _^_, min, max}
-use mathlib.Core.Bool.{Bool, true, false, cond, not}
+use Prim.Native.Nat.{ℕ, zero, _+_, _-_, _*_, _/_, _%_, _^_, min, max}
+use mathlib.Core.Bool.{Bool, not}
 use lib.Bits.{digits, differ}
 use lib.Dec.{ltb, eqb}
 use lib.Signed.{ltZ, quotZ, remZ, shrZ}

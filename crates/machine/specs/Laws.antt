@@ -1,6 +1,6 @@
 -- What callers use of the machine's definitions.
 use Prim.Native.Nat.{ℕ, suc}
-use mathlib.Core.Path.{_≡_, refl, ap}
+use mathlib.Core.Path.{_≡_, ap}
 use mathlib.Core.Bool.{Bool, true, false, cond}
 use mathlib.Core.List.{List, _∷_}
 use lib.Dec.{ltb}
@@ -12,7 +12,7 @@ use Rattle.verifier.specs.Types.{isDint, refFits}
 use Rattle.machine.specs.Heap.{Val, num, ref, readyAt, typeAt, sizeAt, valueFits}
 use Rattle.machine.specs.Machine.{Here, fault, receiver}
 use Rattle.machine.specs.Step.{objectDesc, element, execute}
-use Rattle.machine.specs.Run.{Lent, Answer, sizeWrong, answerOf, sizesOk, runOf}
+use Rattle.machine.specs.Run.{Lent, sizeWrong, answerOf, sizesOk, runOf}
 
 -- where nothing lent is of a wrong size the answer is the bundle's and the heap's alone
 pub run-answer : (s : List ℕ) (t : Lent) (i j : ℕ) (args : List ℕ) (budget : ℕ) → sizesOk t budget ≡ true

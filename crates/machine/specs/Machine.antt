@@ -4,16 +4,16 @@ use mathlib.Core.Bool.{Bool, true, false, cond}
 use mathlib.Core.List.{List, [], _∷_, _++_}
 use mathlib.Core.Option.{Option, none, some}
 use lib.ListN.{length, getD}
-use lib.Dec.{ltb, leb, eqb}
+use lib.Dec.{ltb, leb}
 use Rattle.reader.specs.Limits.{maxCalls}
-use Rattle.reader.specs.BuiltIns.{object, nullPointer}
-use Rattle.reader.specs.Descriptors.{Ref, cls, arr, Desc, dint, dref}
-use Rattle.reader.specs.Members.{Body, Handler}
+use Rattle.reader.specs.BuiltIns.{nullPointer}
+use Rattle.reader.specs.Descriptors.{Ref, cls, arr, Desc, dref}
+use Rattle.reader.specs.Members.{Handler}
 use Rattle.reader.specs.Program.{Program, Method, method, below}
 use Rattle.verifier.specs.Opcodes.{body, codeOf, sizeAt}
 use Rattle.verifier.specs.Shape.{catchClass}
 use Rattle.verifier.specs.Walk.{covers}
-use Rattle.machine.specs.Heap.{Heap, Val, empty, num, ref, cell, typeAt, readyAt, hasRoom, allocate, nextRef, valueFits, paddedLocals}
+use Rattle.machine.specs.Heap.{Heap, Val, empty, num, ref, readyAt, hasRoom, allocate, nextRef, valueFits, paddedLocals}
 
 -- class and method, offset, the receiver of a constructor (0 for others), locals, operands with the top first
 pub data Call : Type 0 where
@@ -67,7 +67,7 @@ withInt (ref r) k = stopped stuck
 abbrev pub popInt : List Val → (ℕ → List Val → Result) → Result
 popInt vs k = popAny vs λ v r. withInt v λ a. k a r
 
--- a local that is not empty
+-- a local; one that no local names is empty
 abbrev pub localAt : List Val → ℕ → Val
 localAt ls j = getD ls j empty
 

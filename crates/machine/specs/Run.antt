@@ -1,21 +1,21 @@
 -- A run from the bytes: refusals 20 to 23, the plain machine's end, and what is left in every lent buffer.
 use Prim.Native.Nat.{ℕ, zero, suc, _+_}
-use mathlib.Core.Bool.{Bool, true, false, cond, _&&_}
-use mathlib.Core.List.{List, [], _∷_, _++_, map}
-use lib.ListN.{length, getD, replicate}
+use mathlib.Core.Bool.{Bool, true, false, cond}
+use mathlib.Core.List.{List, [], _∷_, map}
+use lib.ListN.{length, replicate}
 use lib.Dec.{ltb, leb, eqb}
 use Rattle.kit.specs.Claims.{fail}
 use Rattle.reader.specs.Limits.{scratchSize, maxHeap, slotCount, maxBudget}
 use Rattle.reader.specs.Verdicts.{Refusal, numbers}
 use Rattle.reader.specs.BuiltIns.{firstClass}
 use Rattle.reader.specs.Descriptors.{Desc}
-use Rattle.reader.specs.Program.{Program, Class, Method, class, method, classCount}
+use Rattle.reader.specs.Program.{Program, class, method, classCount}
 use Rattle.reader.specs.Link.{Read, refused, program}
 use Rattle.verifier.specs.Opcodes.{body}
 use Rattle.verifier.specs.Types.{isDint}
 use Rattle.verifier.specs.Verify.{readShaped}
 use Rattle.machine.specs.Heap.{Heap, heap, Val, num, toCell, paddedLocals}
-use Rattle.machine.specs.Machine.{Call, call, Machine, machine, heapOf, End, returned, uncaught, outOfSteps, heapFull, depthFull, stuck, Result, next, ended, stopped}
+use Rattle.machine.specs.Machine.{call, Machine, machine, heapOf, End, returned, uncaught, outOfSteps, heapFull, depthFull, stuck, Result, next, ended, stopped}
 use Rattle.machine.specs.Step.{step}
 
 -- end, step count, heap
@@ -49,6 +49,7 @@ isEntry P i j =
     (cond (ltb j (length (class P (firstClass + i) .methods)))
     (cond (method P (firstClass + i) j .static) (allInts (method P (firstClass + i) j .params)) false) false) false
 
+-- arguments are 32-bit cells
 unfoldable pub started : Program → List ℕ → ℕ → ℕ → List ℕ → Machine
 started P cells i j args =
     machine (heap cells 0) (call (firstClass + i) j 0 0 (paddedLocals (body (method P (firstClass + i) j) .maxLocals) (map num args)) []) []
@@ -83,13 +84,19 @@ endValue heapFull = 0
 endValue depthFull = 0
 endValue stuck = 0
 
--- refusal, end, value, count, cells used; with 21 the verdict's four numbers
+abbrev pub refusedWith : ℕ → List ℕ → List ℕ
+refusedWith n v = n ∷ 0 ∷ 0 ∷ 0 ∷ 0 ∷ v
+
+abbrev pub noVerdict : List ℕ
+noVerdict = 0 ∷ 0 ∷ 0 ∷ 0 ∷ []
+
+-- refusal, end, value, count, cells used; then with 21 the verdict's four numbers, else zeros
 unfoldable pub answerNumbers : Answer → List ℕ
-answerNumbers sizeWrong = 20 ∷ 0 ∷ 0 ∷ 0 ∷ 0 ∷ []
-answerNumbers (bundleRefused r) = 21 ∷ 0 ∷ 0 ∷ 0 ∷ 0 ∷ numbers (fail r)
-answerNumbers noEntry = 22 ∷ 0 ∷ 0 ∷ 0 ∷ 0 ∷ []
-answerNumbers argumentCount = 23 ∷ 0 ∷ 0 ∷ 0 ∷ 0 ∷ []
-answerNumbers (ending R) = 0 ∷ endNumber (R .end) ∷ endValue (R .end) ∷ R .count ∷ R .heap .used ∷ []
+answerNumbers sizeWrong = refusedWith 20 noVerdict
+answerNumbers (bundleRefused r) = refusedWith 21 (numbers (fail r))
+answerNumbers noEntry = refusedWith 22 noVerdict
+answerNumbers argumentCount = refusedWith 23 noVerdict
+answerNumbers (ending R) = 0 ∷ endNumber (R .end) ∷ endValue (R .end) ∷ R .count ∷ R .heap .used ∷ noVerdict
 
 -- 22 and 23, then the run
 unfoldable pub entered : Program → List ℕ → ℕ → ℕ → List ℕ → ℕ → Answer

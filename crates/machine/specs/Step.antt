@@ -1,21 +1,21 @@
 -- One step of the plain machine, a clause a form: stuck before faults, faults before heap, heap before depth.
 use Prim.Native.Nat.{ℕ, zero, suc, _+_}
 use mathlib.Core.Bool.{Bool, true, false, cond, not, Bool·beq}
-use mathlib.Core.List.{List, [], _∷_, _++_, reverse}
-use lib.ListN.{length, getD, set}
-use lib.Dec.{ltb, leb, eqb}
+use mathlib.Core.List.{List, [], _∷_, reverse}
+use lib.ListN.{length, set}
+use lib.Dec.{ltb, eqb}
 use Rattle.reader.specs.BuiltIns.{object, throwable, arithmetic, arrayStore, classCast, arrayIndex, negativeSize, firstClass}
-use Rattle.reader.specs.Descriptors.{Ref, cls, arr, Desc, dint, dref}
-use Rattle.reader.specs.Program.{Program, Method, method, methodSigs, Spot, nowhere, spot, lookup, layout, isConstructor}
+use Rattle.reader.specs.Descriptors.{cls, arr, Desc, dref}
+use Rattle.reader.specs.Program.{Program, method, methodSigs, Spot, nowhere, spot, lookup, layout}
 use Rattle.verifier.specs.Instruction.{Instr, FieldRef, MethodRef, nop, aconstnull, pop, dup, dupx1, swap, ineg, arraylength, iaload, aaload, iastore, aastore, athrow, ireturn, areturn, return, iconst, iload, aload, istore, astore, goto, new, iinc, ibin, idiv, ifint, ificmp, ifacmp, ifnull, getfield, putfield, invokevirtual, invokespecial, invokestatic, newarray, checkcast, instanceof, illegal, unresolved}
 use Rattle.verifier.specs.Resolve.{found}
 use Rattle.verifier.specs.Opcodes.{body, codeOf, sizeAt, instruction}
 use Rattle.verifier.specs.Types.{isDint, refFits}
 use Rattle.verifier.specs.Rule.{returnsInt, returnsRef, returnsVoid}
 use Rattle.machine.specs.Integers.{compute, divided, holds, negated, negative, wrap}
-use Rattle.machine.specs.Heap.{Heap, Val, empty, num, ref, null, cell, typeAt, readyAt, elementAt, store, markReady, toCell, fromCell, isNum, isRef, valueFits}
+use Rattle.machine.specs.Heap.{Heap, Val, empty, num, ref, null, cell, typeAt, readyAt, elementAt, store, markReady, toCell, fromCell, isRef, valueFits}
 use Rattle.machine.specs.Heap.{sizeAt as countAt}
-use Rattle.machine.specs.Machine.{Call, call, Machine, machine, End, stuck, Result, next, ended, stopped, Here, methodAt, only, popAny, popInt, withInt, localAt, popArguments, goOn, push, branch, pushOn, setLocals, withRoom, create, throw, fault, withObject, receiver, withClass, withElement, resultRoom, enter, giveBack}
+use Rattle.machine.specs.Machine.{call, Machine, machine, stuck, Result, stopped, Here, methodAt, only, popAny, popInt, withInt, localAt, popArguments, push, branch, pushOn, setLocals, create, throw, fault, withObject, receiver, withClass, withElement, resultRoom, enter, giveBack}
 
 abbrev pub objectDesc : Desc
 objectDesc = dref (cls object)

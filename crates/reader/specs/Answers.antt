@@ -5,6 +5,7 @@ use mathlib.Core.Path.{_≡_, sym, ap, _∙_}
 use mathlib.Core.Bool.{Bool, true, false, cond, not}
 use lib.Dec.{ltb}
 use borrow.Author.Tests.{not-true, not-false}
+use Rattle.kit.specs.Bools.{not-so}
 use Rattle.kit.specs.Pick.{calls}
 use Rattle.reader.specs.Reading.{Res, ok, bad, andThen}
 use Rattle.reader.specs.declared.items.Got.{Got}
@@ -43,10 +44,23 @@ module _ {B : Type 0} (R : Res B) (x : Res ℕ) (f : ℕ → ℕ → Res B) (a :
   unfolding andThen
   t-bad t p = rw (no-bad x a (a .val) h t) p
 
+-- the same, where the answer stands for something else than its number
+module _ {A B : Type 0} (R : Res B) (x : Res A) (f : A → ℕ → Res B) (a : Got) (v : A) (h : resAs a v ≡ x) where
+  pub as-ok : not (a .ok) ≡ false → R ≡ f v (a .at) → R ≡ andThen x f
+  unfolding andThen
+  as-ok t p = rw (no-ok x a v h t) p
+
 -- the code hands the fault on
 pub t-stop : {A B : Type 0} (x : Res A) (f : A → ℕ → Res B) (a : Got) (v : A) (w : B) → resAs a v ≡ x → not (a .ok) ≡ true → resAs a w ≡ andThen x f
 unfolding andThen
 t-stop x f a v w h t = as-bad a w t ∙ sym (rw (no-bad x a v h t))
+
+-- where an answer is a fault, nothing is asked of its value
+pub no-value : {A : Type 0} (b : Bool) → not b ≡ true → b ≡ true → A
+no-value b h z = absurd (not-so (sym (not-true b h) ∙ z))
+
+pub never : {A : Type 0} → false ≡ true → A
+never z = absurd (not-so z)
 
 pub same-ok : {A : Type 0} (v w : A) (e : ℕ) → v ≡ w → ok v e ≡ ok w e
 same-ok {A} v w e p = ap (λ (n : A). ok n e) p

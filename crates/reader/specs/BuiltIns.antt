@@ -1,6 +1,6 @@
 -- The built-in classes, all of java/lang, by their numbers; each has only `<init>()V`.
 use Prim.Native.Nat.{ℕ}
-use mathlib.Core.List.{List, [], _∷_, _++_, map}
+use mathlib.Core.List.{List, [], _∷_, _++_}
 use Rattle.reader.specs.Names.{Text}
 
 abbrev javaLang : Text → Text

@@ -1,5 +1,5 @@
 -- A class file (JVMS 4.1) and a bundle: 1 to 16 of them end to end. Phase A.
-use Prim.Native.Nat.{ℕ, zero, suc, _+_}
+use Prim.Native.Nat.{ℕ, zero, suc}
 use mathlib.Core.List.{List, [], _∷_}
 use mathlib.Core.Bool.{Bool, true, false, cond}
 use lib.ListN.{length}
@@ -8,7 +8,7 @@ use Rattle.reader.specs.Limits.{maxBundle, maxClasses, maxFields, maxMet
 use Rattle.reader.specs.Reading.{Res, ok, bad, andThen, pre, many, shortAt, u2, u4}
 use Rattle.reader.specs.Names.{Text}
 use Rattle.reader.specs.Pool.{Constant, classText, classIndexAt, poolAt}
-use Rattle.reader.specs.Members.{Member, Found, attributesAt, memberAt}
+use Rattle.reader.specs.Members.{Member, attributesAt, memberAt}
 
 -- the super's name, none where super_class is 0
 pub data Super : Type 0 where

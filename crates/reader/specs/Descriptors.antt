@@ -1,7 +1,7 @@
 -- Types that are written down: of initialised objects and in descriptors (JVMS 4.3), classes by their numbers.
 use Prim.Native.Nat.{ℕ, zero, suc, _+_, _-_}
 use mathlib.Core.List.{List, [], _∷_}
-use mathlib.Core.Bool.{Bool, true, false, cond, not}
+use mathlib.Core.Bool.{Bool, true, cond, not}
 use lib.ListN.{length, getD}
 use lib.Dec.{ltb, eqb}
 use Rattle.kit.specs.Scan.{firstNot}
@@ -27,10 +27,10 @@ pub record MethodType : Type 0 where
 abbrev pub methodType : List Desc → List Desc → MethodType
 methodType ps rs = record { params = ps; results = rs }
 
--- a name runs to the first ;
 unfoldable pub inName : Text → ℕ → Bool
 inName t i = not (eqb (getD t i 0) 59)
 
+-- a name runs to the first ;
 unfoldable pub semicolon : Text → ℕ → ℕ
 semicolon t q = firstNot (inName t) (length t - q) q
 

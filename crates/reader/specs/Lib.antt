@@ -10,6 +10,7 @@ pub mod Shapes
 pub mod Counted
 pub mod Pool
 pub mod Table
+pub mod Faults
 pub mod Members
 pub mod Bundle
 pub mod BuiltIns

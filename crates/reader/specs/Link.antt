@@ -1,18 +1,17 @@
 -- Phase B, linking: duplicate class names; zero or unknown supers; the lowest class whose chain misses Object; members.
-use Prim.Native.Nat.{ℕ, zero, suc, _+_}
+use Prim.Native.Nat.{ℕ, _+_}
 use mathlib.Core.List.{List, [], _∷_, _++_}
 use mathlib.Core.Bool.{Bool, true, false, cond, Bool·beq}
 use lib.ListN.{length, getD}
 use lib.Dec.{ltb, eqb}
-use Rattle.kit.specs.Claims.{Claim, claim, Ruling, pass, fail, verdict, then, relabel, firstOf}
-use Rattle.reader.specs.Verdicts.{Fault, fault, Refusal, inClass, inBundle, Verdict, each}
+use Rattle.kit.specs.Claims.{Claim, claim, pass, fail, verdict, then}
+use Rattle.reader.specs.Verdicts.{fault, Refusal, inClass, inBundle, Verdict, each}
 use Rattle.reader.specs.Reading.{Res, ok, bad}
-use Rattle.reader.specs.Names.{Text}
 use Rattle.reader.specs.Descriptors.{Desc, knownDesc}
 use Rattle.reader.specs.Members.{Member}
 use Rattle.reader.specs.Bundle.{ClassFile, Super, zero′, named, bundleAt}
 use Rattle.reader.specs.BuiltIns.{object, firstClass}
-use Rattle.reader.specs.Program.{Program, Class, Field, Method, noField, noMethod, class, method, classCount, classNames, numberIn, programOf, fieldSigs, methodSigs, indexOf, Spot, nowhere, spot, lookup, below}
+use Rattle.reader.specs.Program.{Program, noField, class, method, classCount, classNames, numberIn, programOf, fieldSigs, methodSigs, indexOf, Spot, nowhere, spot, lookup, below}
 
 -- class i's claim at its first byte
 abbrev pub ofClass : ℕ → ℕ → ClassFile → Bool → List (Claim Refusal)

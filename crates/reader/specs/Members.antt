@@ -1,8 +1,8 @@
 -- Fields, methods (JVMS 4.5, 4.6) and what of their attributes is read: Code (4.7.3) and the StackMapTable in it.
-use Prim.Native.Nat.{ℕ, zero, suc, _+_, _-_, _*_}
-use mathlib.Core.List.{List, [], _∷_}
-use mathlib.Core.Bool.{Bool, true, false, cond, not}
-use lib.ListN.{length, getD}
+use Prim.Native.Nat.{ℕ, _+_, _*_}
+use mathlib.Core.List.{List}
+use mathlib.Core.Bool.{Bool, cond}
+use lib.ListN.{length}
 use lib.Dec.{ltb, eqb}
 use Rattle.kit.specs.Lists.{eqList}
 use Rattle.reader.specs.Limits.{maxStackLimit, maxLocalsLimit, maxCode, maxTableEntries, maxParameters}
@@ -111,10 +111,11 @@ module _ (s : List ℕ) (pool : List Constant) where
       (cond (isInit (text pool i)) (cond (eqb access 9) (bad 6 p) (ok (text pool i) a)) (ok (text pool i) a))
       (bad 7 q)
 
-  -- parameters in slots, with the receiver; and `<init>` returns V
+  -- parameters in slots, with the receiver
   unfoldable pub slots : ℕ → List Desc → ℕ
   slots access ps = length ps + cond (eqb access 9) 0 1
 
+  -- not too many parameters, and `<init>` returns V
   unfoldable pub methodTypeOk : ℕ → Text → ℕ → ℕ → Text → MethodType → Res Text
   methodTypeOk access name q a t m =
       cond (ltb maxParameters (slots access (m .params))) (bad 4 q)

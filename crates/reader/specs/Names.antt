@@ -1,7 +1,7 @@
 -- Names of classes and members (JVMS 4.2), with < and > only in `<init>`.
 use Prim.Native.Nat.{ℕ, _+_, _-_}
 use mathlib.Core.List.{List, [], _∷_}
-use mathlib.Core.Bool.{Bool, true, false, cond, not}
+use mathlib.Core.Bool.{Bool, true, false, cond}
 use lib.ListN.{length, getD}
 use lib.Dec.{ltb, eqb}
 use mathlib.Core.Path.{_≡_, ap, _∙_}
@@ -29,10 +29,10 @@ unfoldable pub plain : ℕ → Bool
 plain b =
     cond (eqb b 46) false (cond (eqb b 59) false (cond (eqb b 91) false (cond (eqb b slash) false (cond (eqb b 60) false (cond (eqb b 62) false true)))))
 
--- an unqualified name: not empty, of plain bytes
 unfoldable pub plainAt : Text → ℕ → Bool
 plainAt t i = plain (getD t i 0)
 
+-- an unqualified name: not empty, of plain bytes
 unfoldable pub unqualified : Text → Bool
 unqualified t = cond (eqb (length t) 0) false (allOf (plainAt t) (length t))
 

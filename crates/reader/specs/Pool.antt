@@ -1,15 +1,14 @@
 -- The constant pool (JVMS 4.4): Utf8, Integer, Class, Fieldref, Methodref, NameAndType.
-use Prim.Native.Nat.{ℕ, zero, suc, _+_, _-_}
+use Prim.Native.Nat.{ℕ, _+_, _-_}
 use mathlib.Core.List.{List, [], _∷_, map}
 use mathlib.Core.Bool.{Bool, true, false, cond}
 use lib.ListN.{length, getD}
 use lib.Dec.{ltb, eqb}
 use Rattle.kit.specs.Scan.{firstNot, allOf}
-use Rattle.kit.specs.Lists.{eqList}
 use Rattle.reader.specs.Limits.{maxPoolCount, maxText}
 use Rattle.reader.specs.Reading.{Res, ok, bad, andThen, pre, many, u2At, u4At, num2At, skipAt, u2, part}
 use Rattle.reader.specs.Names.{Text}
-use Rattle.reader.specs.Descriptors.{Ref, cls, arr, classTypeAt}
+use Rattle.reader.specs.Descriptors.{classTypeAt}
 
 -- an entry as it is written; index 0 and those past the count have none
 pub data Constant : Type 0 where
@@ -92,7 +91,7 @@ isNameAndType (fieldref i j) = false
 isNameAndType (methodref i j) = false
 isNameAndType (nameAndType i j) = true
 
--- the text of a Utf8, or of the Utf8 that a Class names
+-- the text of a Utf8
 abbrev pub textOf : Constant → Text
 textOf absent = []
 textOf (utf8 t) = t
@@ -114,6 +113,7 @@ nameIndex (fieldref i j) = 0
 nameIndex (methodref i j) = 0
 nameIndex (nameAndType i j) = 0
 
+-- the text that a Class names
 unfoldable pub classText : List Constant → ℕ → Text
 classText pool i = text pool (nameIndex (entry pool i))
 

@@ -1,5 +1,5 @@
 -- A program: classes by number (the built-in ones, then the bundle's), with members' types over those numbers.
-use Prim.Native.Nat.{ℕ, zero, suc, _+_}
+use Prim.Native.Nat.{ℕ, zero, suc}
 use mathlib.Core.List.{List, [], _∷_, _++_, map}
 use mathlib.Core.Bool.{Bool, true, false, cond}
 use lib.ListN.{length, getD}
@@ -7,7 +7,7 @@ use lib.Dec.{ltb, eqb}
 use Rattle.kit.specs.Lists.{eqList}
 use Rattle.reader.specs.Reading.{Res, ok, bad}
 use Rattle.reader.specs.Names.{Text, init, isInit}
-use Rattle.reader.specs.Descriptors.{Desc, dint, dref, MethodType, methodType, fieldTypeAt, methodTypeAt}
+use Rattle.reader.specs.Descriptors.{Desc, dint, MethodType, methodType, fieldTypeAt, methodTypeAt}
 use Rattle.reader.specs.Pool.{Constant}
 use Rattle.reader.specs.Members.{Found, none, Body, Member}
 use Rattle.reader.specs.Bundle.{ClassFile, Super, zero′, named}

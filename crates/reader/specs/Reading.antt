@@ -1,9 +1,9 @@
 -- What reading gives: a value and the position past it, or the first fault's number and place.
 use Prim.Native.Nat.{ℕ, zero, suc, _+_, _*_}
 use mathlib.Core.List.{List, [], _∷_, _++_}
-use mathlib.Core.Bool.{Bool, true, false, cond}
+use mathlib.Core.Bool.{cond}
 use lib.ListN.{length, getD, take, drop}
-use lib.Dec.{leb, ltb, eqb}
+use lib.Dec.{leb, ltb}
 
 pub data Res (A : Type 0) : Type 0 where
   ok : A → ℕ → Res A
@@ -58,6 +58,6 @@ u2 s q = num2At s (length s) 2 q q
 unfoldable pub u4 : List ℕ → ℕ → Res ℕ
 u4 s q = num4At s (length s) 2 q q
 
--- the bytes from a to z
+-- n bytes from a on
 unfoldable pub part : List ℕ → ℕ → ℕ → List ℕ
 part s a n = take n (drop a s)

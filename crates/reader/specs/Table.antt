@@ -1,6 +1,6 @@
 -- The table of a pool's tags, a word an entry, and an entry as the code holds it: what they stand for. Assumes nothing.
 use Prim.Native.Nat.{ℕ, zero, suc, _+_, _-_, _*_, _/_, _^_, _<_, _≤_}
-use mathlib.Core.Path.{_≡_, refl, sym, ap, _∙_}
+use mathlib.Core.Path.{_≡_, refl, sym, ap, subst, _∙_}
 use mathlib.Core.List.{List, [], _∷_, _++_, map}
 use mathlib.Core.Bool.{Bool, true, false, cond, not}
 use native.Mathlib.Omega.{arith}
@@ -9,6 +9,8 @@ use lib.Dec.{ltb, leb, eqb}
 use lib.ListN.{length, getD, set, take, drop, length-drop, drop-of-length-le, List·getD-eq-default}
 use lib.Seq.{take-all, take-nil, take-suc-set}
 use borrow.Author.Tests.{leb-true}
+use Rattle.kit.specs.Bools.{not-so}
+use Rattle.kit.specs.Lists.{getD-part}
 use Rattle.kit.specs.Scan.{allOf}
 use Rattle.kit.specs.Words.{word, putWord, words, words-at, words-put, length-words}
 use Rattle.reader.specs.Limits.{maxText}
@@ -16,7 +18,7 @@ use Rattle.reader.specs.Reading.{Res, ok, bad, pre, many, num2At, skipAt
 use Rattle.reader.specs.Answers.{res, no-ok}
 use Rattle.reader.specs.Ends.{Holds, holds-of, then-holds, any-holds, cond-holds, skip-holds}
 use Rattle.reader.specs.Loops.{many-next, many-done}
-use Rattle.reader.specs.Pool.{Constant, absent, utf8, integer, classAt, fieldref, methodref, nameAndType, textOk, utf8At, fixedAt, entrySize, entryAt, constantAt, constants, entry}
+use Rattle.reader.specs.Pool.{Constant, absent, utf8, integer, classAt, fieldref, methodref, nameAndType, textOk, utf8At, fixedAt, entrySize, entryAt, constantAt, constants, entry, isUtf8, textOf, text, nameIndex, classText, isArrayName}
 use Rattle.reader.specs.declared.items.Got.{Got}
 use Rattle.reader.specs.declared.pool.Entry.{Entry}
 use Rattle.reader.specs.declared.pool.Entry.the-variants.{Absent, Utf8, Integer, Class, Field, Method, NameAndType}
@@ -47,6 +49,9 @@ Inside end (NameAndType i j) = Unit {0}
 -- the pool whose tags stand in the table t, as many as it has words
 unfoldable pub poolIn : List ℕ → List ℕ → List Constant
 poolIn s t = constants s (words t)
+
+abbrev pub entryIn : List ℕ → List ℕ → ℕ → Constant
+entryIn s t i = entry (poolIn s t) i
 
 module _ (s : List ℕ) where
   mapped : (ws : List ℕ) (i : ℕ) → i < length ws → getD (map (constantAt s) ws) i absent ≡ constantAt s (getD ws i 0)
@@ -161,3 +166,59 @@ pub put-done : (s : List ℕ) (n k q : ℕ) (t : List ℕ) (x : Res (List ℕ)) 
 put-done s n k q t x i h l =
     let e : n ≡ k = omega arith in
     ap (λ (m : ℕ). ok (take m (words t)) q) e ∙ many-done (entryAt s) n k q (take k (words t)) x i h
+
+-- the text of an entry
+pub no-text : (x : Constant) → false ≡ isUtf8 x → textOf x ≡ []
+no-text absent e = refl
+no-text (utf8 t) e = absurd (not-so e)
+no-text (integer v) e = refl
+no-text (classAt i) e = refl
+no-text (fieldref i j) e = refl
+no-text (methodref i j) e = refl
+no-text (nameAndType i j) e = refl
+
+module _ (s : List ℕ) (e : Entry) (x : Constant) (p : constantOf s e ≡ x) where
+  pub text-is : (a n : ℕ) → e ≡ Utf8 a n → textOf x ≡ part s a n
+  text-is a n k = ap textOf (sym p) ∙ ap (λ (y : Entry). textOf (constantOf s y)) k
+
+  pub name-is : (i : ℕ) → e ≡ Class i → nameIndex x ≡ i
+  name-is i k = ap nameIndex (sym p) ∙ ap (λ (y : Entry). nameIndex (constantOf s y)) k
+
+-- whether it starts an array's descriptor
+module _ (pool : List Constant) (i : ℕ) where
+  array-none : textOf (entry pool i) ≡ [] → false ≡ isArrayName (text pool i)
+  unfolding isArrayName text
+  array-none e = ap isArrayName (sym e)
+
+  pub array-no : false ≡ isUtf8 (entry pool i) → false ≡ isArrayName (text pool i)
+  array-no e = array-none (no-text (entry pool i) e)
+
+  module _ (s : List ℕ) (a n : ℕ) (e : textOf (entry pool i) ≡ part s a n) where
+    pub array-empty : n ≡ 0 → false ≡ isArrayName (text pool i)
+    unfolding isArrayName text part
+    array-empty z = array-none (e ∙ ap (part s a) z)
+
+    pub array-byte : (k : ℕ) → (n ≡ 0 → ⊥) → k ≡ getD s a 0 → eqb k 91 ≡ isArrayName (text pool i)
+    unfolding isArrayName text part
+    array-byte k z h =
+        let w : 0 < n = pos n z in
+        let y : a + 0 ≡ a = omega arith in
+        ap (λ (m : ℕ). eqb m 91)
+        (h ∙ ap (λ (m : ℕ). getD s m 0) (sym y) ∙ sym (getD-part a n s 0 0 w) ∙ ap (λ (l : List ℕ). getD l 0 0) (sym e))
+      where
+        pos : (n : ℕ) → (n ≡ 0 → ⊥) → 0 < n
+        pos zero f = absurd (f refl)
+        pos (suc n) f = omega arith
+
+  pub class-text : (name : ℕ) (r : Bool) → nameIndex (entry pool i) ≡ name → r ≡ isArrayName (text pool name) → r ≡ isArrayName (classText pool i)
+  unfolding classText
+  class-text name r e h = h ∙ ap (λ (k : ℕ). isArrayName (text pool k)) (sym e)
+
+-- a table of no tags but number 0's, which is 0
+pub first-tag : (t u : List ℕ) → u ≡ putWord t 0 0 → 4 ≤ length t → take 1 (words u) ≡ 0 ∷ []
+first-tag t u e h =
+    ap (λ (l : List ℕ). take 1 (words l)) e ∙ ap (take 1) (words-put t 0 0 (omega arith))
+    ∙ take-suc-set (words t) 0 0 (rw (length-words t) (omega arith))
+
+pub inside-is : (end : ℕ) (e : Entry) (a n : ℕ) → Inside end e → e ≡ Utf8 a n → a + n ≤ end
+inside-is end e a n h k = subst (Inside end) k h

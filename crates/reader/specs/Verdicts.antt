@@ -4,7 +4,7 @@ use mathlib.Core.List.{List, [], _∷_, _++_}
 use Rattle.kit.specs.Claims.{Claim, Ruling, pass, fail}
 use Rattle.reader.specs.Limits.{unnamed}
 
--- a fault inside one method or class: the verdict's number and its place
+-- a fault: the verdict's number and its place, before it is said in which class and method
 pub record Fault : Type 0 where
   pub number : ℕ
   pub place : ℕ

@@ -1,4 +1,5 @@
 // The constant pool: where each entry's tag stands goes into the lent table, a word an entry, number 0 a zero; or the first fault.
+use crate::descriptors;
 use crate::items;
 use crate::items::Got;
 ghost use mathlib.Core.Path.{_≡_};
@@ -8,8 +9,9 @@ ghost use lib.ListN.{length, take};
 ghost use Rattle.kit.specs.Words.{words};
 ghost use Rattle.reader.specs.Reading.{pre, many, part};
 ghost use Rattle.reader.specs.Answers.{res, resAs};
-ghost use Rattle.reader.specs.Pool.{Constant, utf8, textOk, utf8At, fixedAt, entrySize, entryAt, constantAt, entry, isUtf8, isClass, isNameAndType, utf8IndexAt, classIndexAt, classText, isArrayName};
-ghost use Rattle.reader.specs.Table.{textByte, constantOf, Inside, poolIn};
+ghost use Rattle.reader.specs.Pool.{utf8, textOk, utf8At, fixedAt, entrySize, entryAt, constantAt, isUtf8, isClass, isNameAndType, text, isArrayName, utf8IndexAt, classIndexAt, pairFault, nameFault, entryFault, checkedAt, tagsAt, poolAt};
+ghost use Rattle.reader.specs.Faults.{sound, firstFault};
+ghost use Rattle.reader.specs.Table.{textByte, constantOf, Inside, poolIn, entryIn};
 
 // A pool entry; a text as its start and length.
 pub enum Entry {
@@ -198,7 +200,7 @@ fn decode(s: &[u8], tag: u32) -> Entry
 
 // Entry i of the pool whose tags stand there.
 pub fn entry_of(s: &[u8], tags: &[u8], i: usize) -> Entry
-    ensures { λ r. ⌜ (constantOf (now (s .entry)) r ≡ entry (poolIn (now (s .entry)) (now (tags .entry))) i) × Inside (length (now (s .entry))) r ⌝ }
+    ensures { λ r. ⌜ (constantOf (now (s .entry)) r ≡ entryIn (now (s .entry)) (now (tags .entry)) i) × Inside (length (now (s .entry))) r ⌝ }
 {
     if i == 0 {
         return Entry::Absent;
@@ -210,7 +212,7 @@ pub fn entry_of(s: &[u8], tags: &[u8], i: usize) -> Entry
 }
 
 pub fn is_utf8(s: &[u8], tags: &[u8], i: usize) -> bool
-    ensures { λ r. ⌜ r ≡ isUtf8 (entry (poolIn (now (s .entry)) (now (tags .entry))) i) ⌝ }
+    ensures { λ r. ⌜ r ≡ isUtf8 (entryIn (now (s .entry)) (now (tags .entry)) i) ⌝ }
 {
     let Entry::Utf8(_, _) = entry_of(s, tags, i) else {
         return false;
@@ -219,7 +221,7 @@ pub fn is_utf8(s: &[u8], tags: &[u8], i: usize) -> bool
 }
 
 pub fn is_class(s: &[u8], tags: &[u8], i: usize) -> bool
-    ensures { λ r. ⌜ r ≡ isClass (entry (poolIn (now (s .entry)) (now (tags .entry))) i) ⌝ }
+    ensures { λ r. ⌜ r ≡ isClass (entryIn (now (s .entry)) (now (tags .entry)) i) ⌝ }
 {
     let Entry::Class(_) = entry_of(s, tags, i) else {
         return false;
@@ -228,7 +230,7 @@ pub fn is_class(s: &[u8], tags: &[u8], i: usize) -> bool
 }
 
 pub fn is_name_and_type(s: &[u8], tags: &[u8], i: usize) -> bool
-    ensures { λ r. ⌜ r ≡ isNameAndType (entry (poolIn (now (s .entry)) (now (tags .entry))) i) ⌝ }
+    ensures { λ r. ⌜ r ≡ isNameAndType (entryIn (now (s .entry)) (now (tags .entry)) i) ⌝ }
 {
     let Entry::NameAndType(_, _) = entry_of(s, tags, i) else {
         return false;
@@ -256,5 +258,202 @@ pub fn utf8_index(s: &[u8], tags: &[u8], q: usize) -> Got
         ok: true,
         val: k,
         at: i.at,
+    }
+}
+
+// Whether the text that entry i is starts an array's descriptor.
+fn is_array_name(s: &[u8], tags: &[u8], i: usize) -> bool
+    ensures { λ r. ⌜ r ≡ isArrayName (text (poolIn (now (s .entry)) (now (tags .entry))) i) ⌝ }
+{
+    let Entry::Utf8(a, n) = entry_of(s, tags, i) else {
+        return false;
+    };
+    if n == 0 {
+        return false;
+    }
+    kit::byte(s, a) == 91
+}
+
+// this_class or super_class, whose number i stands at q and ends at e: a Class, and no array.
+pub fn class_index(s: &[u8], tags: &[u8], q: usize, i: usize, e: usize) -> Got
+    ensures { λ r. ⌜ res r ≡ classIndexAt (now (s .entry)) (poolIn (now (s .entry)) (now (tags .entry))) q i e ⌝ }
+{
+    let Entry::Class(name) = entry_of(s, tags, i) else {
+        return Got {
+            ok: false,
+            val: 5,
+            at: q,
+        };
+    };
+    if is_array_name(s, tags, name) {
+        return Got {
+            ok: false,
+            val: 7,
+            at: q,
+        };
+    }
+    Got {
+        ok: true,
+        val: i,
+        at: e,
+    }
+}
+
+// A Fieldref or Methodref: a Class and a NameAndType.
+fn member_fault(s: &[u8], tags: &[u8], i: usize, j: usize) -> usize
+    ensures { λ r. ⌜ r ≡ pairFault (isClass (entryIn (now (s .entry)) (now (tags .entry)) i)) (isNameAndType (entryIn (now (s .entry)) (now (tags .entry)) j)) ⌝ }
+{
+    let Entry::Class(_) = entry_of(s, tags, i) else {
+        return 5;
+    };
+    let Entry::NameAndType(_, _) = entry_of(s, tags, j) else {
+        return 5;
+    };
+    0
+}
+
+// A NameAndType: two texts.
+fn texts_fault(s: &[u8], tags: &[u8], i: usize, j: usize) -> usize
+    ensures { λ r. ⌜ r ≡ pairFault (isUtf8 (entryIn (now (s .entry)) (now (tags .entry)) i)) (isUtf8 (entryIn (now (s .entry)) (now (tags .entry)) j)) ⌝ }
+{
+    let Entry::Utf8(_, _) = entry_of(s, tags, i) else {
+        return 5;
+    };
+    let Entry::Utf8(_, _) = entry_of(s, tags, j) else {
+        return 5;
+    };
+    0
+}
+
+// The entries 1 .. n - 1 behind a zero for number 0.
+fn all_tags(s: &[u8], from: usize, n: usize, t: &mut [u8]) -> Got
+    requires { ⌜ (length (now s) ≤ 65536) × (from ≤ length (now s)) × (1 ≤ n) × (4 * n ≤ length (now t)) ⌝ }
+    ensures { λ r. ⌜ resAs r (take n (words (now (t .exit)))) ≡ tagsAt (now (s .entry)) n from ⌝ }
+{
+    kit::put_word(t, 0, 0);
+    entries(s, from, n, t)
+}
+
+// The text that a Class names.
+fn name_fault(s: &[u8], tags: &[u8], i: usize) -> usize
+    ensures { λ r. ⌜ r ≡ nameFault (poolIn (now (s .entry)) (now (tags .entry))) i ⌝ }
+{
+    let Entry::Utf8(a, n) = entry_of(s, tags, i) else {
+        return 5;
+    };
+    let e = a + n;
+    let g = descriptors::class_type(&s[a..e], 0);
+    if g.ok {
+        return 0;
+    }
+    g.val
+}
+
+fn entry_fault(s: &[u8], tags: &[u8], i: usize) -> usize
+    ensures { λ r. ⌜ r ≡ entryFault (poolIn (now (s .entry)) (now (tags .entry))) i ⌝ }
+{
+    let e = entry_of(s, tags, i);
+    match e {
+        Entry::Absent => {
+            return 0;
+        }
+        Entry::Utf8(_, _) => {
+            return 0;
+        }
+        Entry::Integer(_) => {
+            return 0;
+        }
+        Entry::Class(name) => {
+            return name_fault(s, tags, name);
+        }
+        Entry::Field(class, member) => {
+            return member_fault(s, tags, class, member);
+        }
+        Entry::Method(class, member) => {
+            return member_fault(s, tags, class, member);
+        }
+        Entry::NameAndType(name, descriptor) => {
+            return texts_fault(s, tags, name, descriptor);
+        }
+    }
+}
+
+fn sound(s: &[u8], tags: &[u8], i: usize) -> bool
+    ensures { λ r. ⌜ r ≡ sound (poolIn (now (s .entry)) (now (tags .entry))) i ⌝ }
+{
+    entry_fault(s, tags, i) == 0
+}
+
+// The first entry with a fault, or the count.
+fn first_fault(s: &[u8], tags: &[u8]) -> usize
+    ensures { λ r. ⌜ r ≡ firstFault (poolIn (now (s .entry)) (now (tags .entry))) ⌝ }
+{
+    let n = tags.len() / 4;
+    let mut i = 0;
+    while i < n {
+        if !sound(s, tags, i) {
+            return i;
+        }
+        i += 1;
+    }
+    i
+}
+
+// The pool that is read and ends at `at`: its indices and the names of its classes.
+fn checked(s: &[u8], tags: &[u8], at: usize) -> Got
+    ensures { λ r. ⌜ resAs r (poolIn (now (s .entry)) (now (tags .entry))) ≡ checkedAt (words (now (tags .entry))) (poolIn (now (s .entry)) (now (tags .entry))) at ⌝ }
+{
+    let n = tags.len() / 4;
+    let k = first_fault(s, tags);
+    if k < n {
+        return Got {
+            ok: false,
+            val: entry_fault(s, tags, k),
+            at: kit::word(tags, k) as usize,
+        };
+    }
+    Got {
+        ok: true,
+        val: n,
+        at,
+    }
+}
+
+// The pool at q; t gets its table, as many words as its count, which is the answer's value.
+pub fn pool(s: &[u8], q: usize, t: &mut [u8]) -> Got
+    requires { ⌜ (length (now s) ≤ 65536) × (4096 ≤ length (now t)) ⌝ }
+    ensures { λ r. ⌜ (resAs r (poolIn (now (s .entry)) (take (4 * r .val) (now (t .exit)))) ≡ poolAt (now (s .entry)) q) × (r .ok ≡ true → r .val ≤ 1024) ⌝ }
+{
+    let n = items::u2(s, q);
+    if !n.ok {
+        return n;
+    }
+    if n.val == 0 {
+        return Got {
+            ok: false,
+            val: 5,
+            at: q,
+        };
+    }
+    if 1024 < n.val {
+        return Got {
+            ok: false,
+            val: 4,
+            at: q,
+        };
+    }
+    let g = all_tags(s, n.at, n.val, t);
+    if !g.ok {
+        return g;
+    }
+    let e = 4 * n.val;
+    let c = checked(s, &t[0..e], g.at);
+    if !c.ok {
+        return c;
+    }
+    Got {
+        ok: true,
+        val: n.val,
+        at: c.at,
     }
 }

@@ -10,7 +10,7 @@ use lib.Dec.{T, eqb, eqb→eq, eqb-refl, ltb}
 use Rattle.reader.specs.Names.{Text, init}
 use Rattle.reader.specs.Descriptors.{Ref, cls, arr, Desc, dint, dref, MethodType, methodTypeAt}
 use Rattle.reader.specs.BuiltIns.{firstClass}
-use Rattle.reader.specs.Program.{Program, Class, Field, Method, methodTypeOr, class, method, classCount, isConstructor, upTo, below, methodSigs, lookup}
+use Rattle.reader.specs.Program.{Program, Class, Field, Method, methodTypeOr, class, method, classCount, isConstructor, upTo, below, methodSigs, lookup, layout}
 use Rattle.reader.specs.Link.{agrees}
 use Rattle.verifier.specs.Types.{refFits, descFits}
 use Rattle.machine.specs.Heap.{intBase}
@@ -23,6 +23,7 @@ pub record Link (P : Program) : Type 0 where
   pub few : classCount P < intBase
   pub ends : (c : ℕ) → T (below P c 0)
   pub bare : length (class P 0 .fields) ≡ 0
+  pub plain : (c : ℕ) → c < firstClass → layout P c ≡ []
   pub number : Text → ℕ
   -- a built-in class has only `<init>`
   pub built : (c j : ℕ) → c < firstClass → j < length (class P c .methods) → method P c j .sig .name ≡ init

@@ -11,3 +11,6 @@ pub mod Parsing
 pub mod Files
 pub mod Linking
 pub mod Cells
+pub mod Typing
+pub mod Blocks
+pub mod Inv

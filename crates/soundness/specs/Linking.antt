@@ -16,7 +16,7 @@ use Rattle.reader.specs.Descriptors.{methodTypeAt}
 use Rattle.reader.specs.Members.{Member, none}
 use Rattle.reader.specs.Bundle.{ClassFile, Super, zero′}
 use Rattle.reader.specs.BuiltIns.{BuiltIn, builtIns, firstClass, object}
-use Rattle.reader.specs.Program.{Program, Class, Field, Method, noClass, noMethod, methodTypeOr, class, method, classCount, isConstructor, numberIn, classNames, methodOf, classOf, classesFrom, builtInsFrom, programOf, upTo, below, methodSigs, lookup}
+use Rattle.reader.specs.Program.{Program, Class, Field, Method, noClass, noMethod, methodTypeOr, class, method, classCount, isConstructor, numberIn, classNames, methodOf, classOf, classesFrom, builtInsFrom, programOf, upTo, below, methodSigs, lookup, layoutTo, layout}
 use Rattle.reader.specs.Link.{chainClaims, allKnown, agrees, fieldClaims, methodClaims, memberClaims}
 use Rattle.machine.specs.Heap.{intBase}
 use Rattle.soundness.specs.Base.{AllT-left, AllT-right, second-of, right-of}
@@ -85,9 +85,6 @@ unfolding below
 near P c h = h
 
 module _ (fs : List ClassFile) where
-  abbrev P : Program
-  P = programOf fs
-
   abbrev num : Text → ℕ
   num = numberIn (classNames fs)
 
@@ -158,6 +155,25 @@ module _ (fs : List ClassFile) where
       go (suc (suc (suc (suc (suc (suc (suc (suc (suc (suc zero)))))))))) h = tt
       go (suc (suc (suc (suc (suc (suc (suc (suc (suc (suc (suc c))))))))))) h = absurd (omega arith)
 
+  -- none of them has fields
+  built-plain : (c : ℕ) → c < firstClass → layout (programOf fs) c ≡ []
+  unfolding layout programOf builtInsFrom builtIns layoutTo
+  built-plain c h = go c h
+    where
+      go : (c : ℕ) → c < firstClass → layoutTo (programOf fs) (classCount (programOf fs)) c ≡ []
+      go zero h = refl
+      go (suc zero) h = refl
+      go (suc (suc zero)) h = refl
+      go (suc (suc (suc zero))) h = refl
+      go (suc (suc (suc (suc zero)))) h = refl
+      go (suc (suc (suc (suc (suc zero))))) h = refl
+      go (suc (suc (suc (suc (suc (suc zero)))))) h = refl
+      go (suc (suc (suc (suc (suc (suc (suc zero))))))) h = refl
+      go (suc (suc (suc (suc (suc (suc (suc (suc zero)))))))) h = refl
+      go (suc (suc (suc (suc (suc (suc (suc (suc (suc zero))))))))) h = refl
+      go (suc (suc (suc (suc (suc (suc (suc (suc (suc (suc zero)))))))))) h = refl
+      go (suc (suc (suc (suc (suc (suc (suc (suc (suc (suc (suc c))))))))))) h = absurd (omega arith)
+
   ended : Linked fs → (c : ℕ) → T (below (programOf fs) c object)
   unfolding chainClaims
   ended l c = go (decLt c firstClass) (decLt c (firstClass + length fs))
@@ -176,14 +192,15 @@ module _ (fs : List ClassFile) where
           outside : T (below (programOf fs) c object)
           outside = near (programOf fs) c (at-none (classCount (programOf fs)) (omega (arith, count)))
 
-  pub link : (s : List ℕ) (e : ℕ) → Linked fs → Each File fs → length fs ≤ maxClasses → Link (programOf fs)
+  pub link : Linked fs → Each File fs → length fs ≤ maxClasses → Link (programOf fs)
   unfolding methodOf memberClaims methodClaims
-  link s e l r n = record {
+  link l r n = record {
     root = root;
     one = omega (arith, count);
     few = omega (arith, count);
     ends = ended l;
     bare = bare;
+    plain = built-plain;
     number = num;
     built = λ c j h k. rw (built-class c h) (built-init 0 builtIns c j (omega (arith, eleven, built-length 0 builtIns)) (rw (built-class c h) at k));
     owned = λ c j h k. ap (λ (m : Method). m .owner) (mine c j h k .made);
@@ -230,4 +247,4 @@ module _ (fs : List ClassFile) where
 pub linking : {s : List ℕ} {P : Program} → Accepted s P → Link P
 linking {s} a =
     let b = bundle-read s (a .files) (a .end) (a .read) in
-    rw (a .is) (link (a .files) s (a .end) (a .linked) (b .0) (b .1))
+    rw (a .is) (link (a .files) (a .linked) (b .0) (b .1))

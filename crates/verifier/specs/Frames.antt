@@ -1,18 +1,17 @@
 -- The frame table (JVMS 4.7.4): whatever is wrong with frame k is 14 at k.
 use Prim.Native.Nat.{ℕ, zero, suc, _+_, _-_}
-use mathlib.Core.Bool.{Bool, true, false, cond, not, _||_}
+use mathlib.Core.Bool.{Bool, true, false, cond, not}
 use mathlib.Core.List.{List, [], _∷_, _++_, reverse}
 use lib.ListN.{length, getD, take}
 use lib.Dec.{ltb, leb, eqb}
 use Rattle.reader.specs.Limits.{maxFrames}
 use Rattle.reader.specs.Reading.{Res, ok, bad, andThen, pre, many, num2At}
-use Rattle.reader.specs.Descriptors.{Ref}
-use Rattle.reader.specs.Members.{Found, none, once, twice, Body}
-use Rattle.reader.specs.Program.{Program, Class, Method, class, isConstructor}
+use Rattle.reader.specs.Members.{Found, none, once, twice}
+use Rattle.reader.specs.Program.{Program, Method, class, isConstructor}
 use Rattle.verifier.specs.Resolve.{Resolved, by, resolve}
 use Rattle.verifier.specs.Opcodes.{body}
 use Rattle.verifier.specs.Lines.{Line, lines, isStart, isNewAt}
-use Rattle.verifier.specs.Types.{Key, at, self, Ty, top, int, null, ini, uninit, isTop}
+use Rattle.verifier.specs.Types.{at, self, Ty, top, int, null, ini, uninit, isTop}
 use Rattle.verifier.specs.States.{State, state, noCopy, padded, parameterTys}
 
 pub data Frame : Type 0 where

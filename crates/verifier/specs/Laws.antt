@@ -1,16 +1,16 @@
 -- Shortcuts that look harmless, ruled out: what `new` and a failed constructor call leave of an uninitialised object.
-use Prim.Native.Nat.{ℕ, suc}
-use mathlib.Core.Path.{_≡_, refl, ap}
+use Prim.Native.Nat.{ℕ}
+use mathlib.Core.Path.{_≡_, refl}
 use mathlib.Core.Bool.{Bool, true, false, cond}
 use mathlib.Core.List.{List, [], _∷_}
 use lib.ListN.{length}
-use Rattle.kit.specs.Claims.{Ruling, fail, verdict}
+use Rattle.kit.specs.Claims.{fail, verdict}
 use Rattle.reader.specs.Program.{Program, Method}
 use Rattle.verifier.specs.Instruction.{MethodRef, new, invokespecial}
 use Rattle.verifier.specs.Resolve.{found}
 use Rattle.verifier.specs.Types.{Key, at, Ty, top, isUninit}
 use Rattle.verifier.specs.States.{State, state, operand, replaceAll, noCopy}
-use Rattle.verifier.specs.Rule.{Rule, rule, constructing, arguments, keyOf}
+use Rattle.verifier.specs.Rule.{rule, constructing, arguments, keyOf}
 
 abbrev locals : State → List Ty
 locals (state g l s) = l

@@ -1,12 +1,16 @@
 pub mod Instruction
 pub mod Resolve
 pub mod Opcodes
+pub mod OpcodeTable
 pub mod Types
+pub mod TypeWords
 pub mod States
+pub mod Ancestry
 pub mod Lines
 pub mod Shape
 pub mod Frames
 pub mod Rule
+pub mod TypeLaws
 pub mod Walk
 pub mod Verify
 pub mod Computing

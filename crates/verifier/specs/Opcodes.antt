@@ -1,13 +1,13 @@
 -- The opcode table: for each range of bytes the length, the fixed operands taken and left, and the instruction.
-use Prim.Native.Nat.{ℕ, zero, suc, _+_, _-_, _*_, _%_, _^_}
-use mathlib.Core.Bool.{Bool, true, false, cond}
+use Prim.Native.Nat.{ℕ, _+_, _-_, _*_, _%_, _^_}
+use mathlib.Core.Bool.{Bool, false, cond}
 use mathlib.Core.List.{List, [], _∷_}
-use lib.ListN.{length, getD}
+use lib.ListN.{getD}
 use lib.Dec.{ltb, leb, eqb}
-use Rattle.reader.specs.Descriptors.{dint, dref}
-use Rattle.reader.specs.Program.{Program, Class, Method, class}
+use Rattle.reader.specs.Descriptors.{dint}
+use Rattle.reader.specs.Program.{Program, Method, class}
 use Rattle.reader.specs.Members.{Found, none, once, twice, Body}
-use Rattle.verifier.specs.Instruction.{Instr, Op, add, sub, mul, shl, shr, ushr, and, or, xor, quotient, remainder, Test, eq, ne, lt, ge, gt, le, nop, aconstnull, pop, dup, dupx1, swap, ineg, arraylength, iaload, aaload, iastore, aastore, athrow, ireturn, areturn, return, iconst, iload, aload, istore, astore, goto, new, iinc, ibin, idiv, ifint, ificmp, ifacmp, ifnull, getfield, putfield, invokevirtual, invokespecial, invokestatic, newarray, checkcast, instanceof, illegal, unresolved}
+use Rattle.verifier.specs.Instruction.{Instr, add, sub, mul, shl, shr, ushr, and, or, xor, quotient, remainder, Test, eq, ne, lt, ge, gt, le, nop, aconstnull, pop, dup, dupx1, swap, ineg, arraylength, iaload, aaload, iastore, aastore, athrow, ireturn, areturn, return, iconst, iload, aload, istore, astore, goto, iinc, ibin, idiv, ifint, ificmp, ifacmp, ifnull, getfield, putfield, invokevirtual, invokespecial, invokestatic, newarray, checkcast, instanceof, illegal}
 use Rattle.verifier.specs.Resolve.{Resolved, resolve, asNumber, asType, asField, asMethod, newOf, arrayOf, isStaticCall, isVirtualCall, isInitCall}
 
 -- what an instruction is made from: its place in the range, its two operand bytes, its offset, and what the pool resolves to

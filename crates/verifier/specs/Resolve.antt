@@ -1,16 +1,16 @@
 -- What code names: numbers, types, fields and methods, found once from a class's pool.
-use Prim.Native.Nat.{ℕ, zero, suc, _+_}
-use mathlib.Core.Bool.{Bool, true, false, cond, not}
-use mathlib.Core.List.{List, [], _∷_, map}
+use Prim.Native.Nat.{ℕ, _+_}
+use mathlib.Core.Bool.{Bool, false, cond, not}
+use mathlib.Core.List.{List, map}
 use lib.ListN.{length, getD}
-use lib.Dec.{ltb, eqb}
+use lib.Dec.{ltb}
 use Rattle.reader.specs.Limits.{maxDimensions}
 use Rattle.reader.specs.Reading.{Res, ok, bad}
 use Rattle.reader.specs.Names.{Text, isInit}
-use Rattle.reader.specs.Descriptors.{Ref, cls, arr, Desc, dint, dref, classTypeAt, knownRef, dimensions}
+use Rattle.reader.specs.Descriptors.{Ref, cls, arr, dref, classTypeAt, knownRef, dimensions}
 use Rattle.reader.specs.Pool.{Constant, absent, utf8, integer, classAt, fieldref, methodref, nameAndType, entry, text}
-use Rattle.reader.specs.Program.{Program, Class, Field, Method, noField, Signature, signature, class, method, classCount, numberIn, fieldSigs, methodSigs, indexOf, Spot, nowhere, spot, lookup, layout, isConstructor}
-use Rattle.verifier.specs.Instruction.{Instr, FieldRef, MethodRef, new, newarray, getfield, putfield, invokevirtual, invokespecial, invokestatic, checkcast, instanceof, iconst, unresolved}
+use Rattle.reader.specs.Program.{Program, Class, Method, noField, Signature, signature, class, method, classCount, numberIn, fieldSigs, methodSigs, indexOf, Spot, nowhere, spot, lookup, layout, isConstructor}
+use Rattle.verifier.specs.Instruction.{Instr, FieldRef, MethodRef, new, newarray, unresolved}
 
 pub data Resolved : Type 0 where
   nothing : Resolved

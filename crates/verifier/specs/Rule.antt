@@ -1,16 +1,16 @@
 -- What one instruction asks and does: the type system, a line a form (JVMS 4.10.1.9 as document 01 cuts it).
-use Prim.Native.Nat.{ℕ, zero, suc}
-use mathlib.Core.Bool.{Bool, true, false, cond, not, _||_}
+use Prim.Native.Nat.{ℕ, suc}
+use mathlib.Core.Bool.{Bool, true, false, cond, not}
 use mathlib.Core.List.{List, [], _∷_, _++_, reverse}
 use lib.ListN.{length, getD, drop, set}
 use lib.Dec.{eqb}
 use Rattle.kit.specs.Claims.{Claim, claim}
-use Rattle.reader.specs.Descriptors.{Ref, cls, arr, Desc, dint, dref}
-use Rattle.reader.specs.Program.{Program, Class, Method, class}
-use Rattle.verifier.specs.Instruction.{Instr, FieldRef, MethodRef, nop, aconstnull, pop, dup, dupx1, swap, ineg, arraylength, iaload, aaload, iastore, aastore, athrow, ireturn, areturn, return, iconst, iload, aload, istore, astore, goto, new, iinc, ibin, idiv, ifint, ificmp, ifacmp, ifnull, getfield, putfield, invokevirtual, invokespecial, invokestatic, newarray, checkcast, instanceof, illegal, unresolved}
+use Rattle.reader.specs.Descriptors.{cls, arr, Desc, dint, dref}
+use Rattle.reader.specs.Program.{Program, Method, class}
+use Rattle.verifier.specs.Instruction.{Instr, MethodRef, nop, aconstnull, pop, dup, dupx1, swap, ineg, arraylength, iaload, aaload, iastore, aastore, athrow, ireturn, areturn, return, iconst, iload, aload, istore, astore, goto, new, iinc, ibin, idiv, ifint, ificmp, ifacmp, ifnull, getfield, putfield, invokevirtual, invokespecial, invokestatic, newarray, checkcast, instanceof, illegal, unresolved}
 use Rattle.verifier.specs.Resolve.{found}
 use Rattle.verifier.specs.Lines.{newClassAt}
-use Rattle.verifier.specs.Types.{Key, at, self, Ty, top, int, null, ini, uninit, tyOf, tysOf, objectTy, throwableTy, intArray, objectArray, isInt, isReference, isArray, elementTy, isDint}
+use Rattle.verifier.specs.Types.{Key, at, self, Ty, top, int, null, ini, uninit, tyOf, tysOf, objectTy, throwableTy, intArray, objectArray, isInt, isReference, isArray, elementTy}
 use Rattle.verifier.specs.States.{State, state, topOf, operand, replaceAll, noCopy}
 
 -- takes: the operands, top first, where top stands for any; asks: the form's own claims; after: the state that goes on;

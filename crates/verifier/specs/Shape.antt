@@ -1,5 +1,5 @@
 -- Phase C, shape, of one method: 10; all 11; 12 and 13 in order; the exception table.
-use Prim.Native.Nat.{ℕ, zero, suc, _+_}
+use Prim.Native.Nat.{ℕ}
 use mathlib.Core.Bool.{Bool, true, false, cond}
 use mathlib.Core.List.{List, [], _∷_, _++_}
 use lib.ListN.{length}
@@ -7,10 +7,10 @@ use lib.Dec.{ltb, leb, eqb}
 use Rattle.kit.specs.Claims.{Claim, claim}
 use Rattle.reader.specs.Verdicts.{Fault, fault}
 use Rattle.reader.specs.BuiltIns.{throwable}
-use Rattle.reader.specs.Members.{Found, none, once, twice, Body, Handler}
-use Rattle.reader.specs.Program.{Program, Class, Method, class, classCount, below}
-use Rattle.verifier.specs.Instruction.{Instr, targets, formOk, resolved}
-use Rattle.verifier.specs.Resolve.{Resolved, resolve, caughtClass}
+use Rattle.reader.specs.Members.{Found, none, once, twice, Handler}
+use Rattle.reader.specs.Program.{Program, Method, class, classCount, below}
+use Rattle.verifier.specs.Instruction.{targets, formOk, resolved}
+use Rattle.verifier.specs.Resolve.{resolve, caughtClass}
 use Rattle.verifier.specs.Opcodes.{body, codeOf}
 use Rattle.verifier.specs.Lines.{Line, line, lines, isStart}
 use Rattle.verifier.specs.States.{parameterTys}

@@ -1,13 +1,13 @@
 -- States of the verifier: flag, locals, operand stack; and how a state fits a frame.
-use Prim.Native.Nat.{ℕ, zero, suc, _-_}
-use mathlib.Core.Bool.{Bool, true, false, cond, not, Bool·beq}
+use Prim.Native.Nat.{ℕ, _-_}
+use mathlib.Core.Bool.{Bool, true, false, cond, Bool·beq}
 use mathlib.Core.List.{List, [], _∷_, _++_}
-use lib.ListN.{length, getD, drop, replicate}
+use lib.ListN.{length, drop, replicate}
 use lib.Dec.{eqb}
 use Rattle.kit.specs.Claims.{Claim, claim}
-use Rattle.reader.specs.Descriptors.{Desc, cls}
+use Rattle.reader.specs.Descriptors.{cls}
 use Rattle.reader.specs.Program.{Program, Method, isConstructor}
-use Rattle.verifier.specs.Types.{Key, at, self, Ty, top, int, null, ini, uninit, isUninit, tysOf, fits}
+use Rattle.verifier.specs.Types.{Key, self, Ty, top, ini, uninit, isUninit, tysOf, fits}
 use Rattle.verifier.specs.Opcodes.{body}
 
 -- the flag says that this constructor's receiver is uninitialised; the operand stack has its top first

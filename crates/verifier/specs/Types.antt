@@ -1,6 +1,6 @@
 -- Verification types, and which fits which (JVMS 4.10.1.2, without interfaces).
 use Prim.Native.Nat.{ℕ}
-use mathlib.Core.Bool.{Bool, true, false, cond, not}
+use mathlib.Core.Bool.{Bool, true, false}
 use mathlib.Core.List.{List, [], _∷_}
 use lib.Dec.{eqb}
 use Rattle.reader.specs.Descriptors.{Ref, cls, arr, Desc, dint, dref}

@@ -1,11 +1,11 @@
 -- Verdicts of a bundle from its bytes, through all phases; and what `verify` leaves.
-use Prim.Native.Nat.{ℕ, zero, suc, _+_}
-use mathlib.Core.Bool.{Bool, true, false, cond}
-use mathlib.Core.List.{List, [], _∷_, _++_}
+use Prim.Native.Nat.{ℕ, suc}
+use mathlib.Core.Bool.{cond}
+use mathlib.Core.List.{List, [], _∷_}
 use lib.ListN.{length, drop, replicate}
 use lib.Dec.{ltb}
-use Rattle.kit.specs.Claims.{Claim, Ruling, pass, fail, verdict, then, relabel, firstOf}
-use Rattle.reader.specs.Limits.{scratchSize, unnamed}
+use Rattle.kit.specs.Claims.{Ruling, pass, fail, verdict, then, relabel}
+use Rattle.reader.specs.Limits.{scratchSize}
 use Rattle.reader.specs.Verdicts.{Fault, fault, Refusal, inMethod, inBundle, Verdict}
 use Rattle.reader.specs.Reading.{Res, ok, bad}
 use Rattle.reader.specs.BuiltIns.{firstClass}

@@ -1,6 +1,6 @@
 -- Phase D, the code walk: by offset, the claims of each instruction in document 01's order.
-use Prim.Native.Nat.{ℕ, zero, suc}
-use mathlib.Core.Bool.{Bool, true, false, cond, not}
+use Prim.Native.Nat.{ℕ, suc}
+use mathlib.Core.Bool.{Bool, false, cond, not}
 use mathlib.Core.List.{List, [], _∷_, _++_}
 use mathlib.Core.Option.{Option, none, some}
 use lib.ListN.{length}
@@ -8,7 +8,7 @@ use lib.Dec.{ltb, leb, eqb}
 use Rattle.kit.specs.Claims.{Claim, claim, label}
 use Rattle.reader.specs.Verdicts.{Fault, fault, faultAt}
 use Rattle.reader.specs.Descriptors.{cls}
-use Rattle.reader.specs.Members.{Body, Handler}
+use Rattle.reader.specs.Members.{Handler}
 use Rattle.reader.specs.Program.{Program, Method}
 use Rattle.verifier.specs.Instruction.{Instr, targets, falls}
 use Rattle.verifier.specs.Opcodes.{body, codeOf}

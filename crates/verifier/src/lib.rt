@@ -1,1 +1,3 @@
 // Phases C and D. The definitions are in specs/.
+pub mod opcodes;
+pub mod types;

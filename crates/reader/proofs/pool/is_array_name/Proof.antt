@@ -1,0 +1,27 @@
+use Rattle.reader.proofs.pool.Asked.{no-utf8}
+use Rattle.reader.specs.Table.{text-is, array-no, array-empty, array-byte}
+use borrow.Author.Needs.{needs}
+use Rattle.reader.proofs.pool.is_array_name.Statement.{statement}
+use Rattle.reader.proofs.pool.is_array_name.Tie as tie
+
+entry-of-requires : tie.Need-entry-of-requires
+entry-of-requires c κs = search needs
+
+enum-known-a : tie.Need-enum-known-a
+enum-known-a c = search needs
+
+returns : tie.Need-returns
+returns c = array-no _ _ ((no-utf8 (c .before .before .before .before .args .s .now) (c .before .entry-of .result) _ (c .before .entry-of .ensures .0) (c .match .keys2)))
+
+returns-2 : tie.Need-returns-2
+returns-2 c = array-empty _ _ (c .before .before .before .before .before .before .before .args .s .now) _ _ (text-is (c .before .before .before .before .before .before .before .args .s .now) (c .before .before .before .before .entry-of .result) _ (c .before .before .before .before .entry-of .ensures .0) _ _ (c .before .before .a .given .1)) (c .if1 .taken)
+
+byte-requires : tie.Need-byte-requires
+byte-requires c κs = search needs
+
+returns-3 : tie.Need-returns-3
+returns-3 c = array-byte _ _ (c .before .before .before .before .before .before .before .before .args .s .now) _ _ (text-is (c .before .before .before .before .before .before .before .before .args .s .now) (c .before .before .before .before .before .entry-of .result) _ (c .before .before .before .before .before .entry-of .ensures .0) _ _ (c .before .before .before .a .given .1)) _ (c .before .if1 .left) (c .byte .ensures .0)
+
+pub is-array-name-spec : {M : Type 1} → statement M
+is-array-name-spec =
+    tie.close (tie.spec entry-of-requires enum-known-a returns returns-2 byte-requires returns-3)
