@@ -11,6 +11,7 @@ pub mod Counted
 pub mod Pool
 pub mod Table
 pub mod Faults
+pub mod PoolEnds
 pub mod Members
 pub mod Bundle
 pub mod BuiltIns

@@ -18,8 +18,9 @@ use Rattle.reader.specs.Reading.{Res, ok, bad, pre, many, num2At, skipAt
 use Rattle.reader.specs.Answers.{res, no-ok}
 use Rattle.reader.specs.Ends.{Holds, holds-of, then-holds, any-holds, cond-holds, skip-holds}
 use Rattle.reader.specs.Loops.{many-next, many-done}
-use Rattle.reader.specs.Pool.{Constant, absent, utf8, integer, classAt, fieldref, methodref, nameAndType, textOk, utf8At, fixedAt, entrySize, entryAt, constantAt, constants, entry, isUtf8, textOf, text, nameIndex, classText, isArrayName}
+use Rattle.reader.specs.Pool.{Constant, absent, utf8, integer, classAt, fieldref, methodref, nameAndType, textOk, utf8At, fixedAt, entrySize, entryAt, constantAt, constants, entry, isUtf8, isClass, textOf, text, nameIndex, classText, isArrayName}
 use Rattle.reader.specs.declared.items.Got.{Got}
+use Rattle.reader.specs.declared.pool.Span.{Span}
 use Rattle.reader.specs.declared.pool.Entry.{Entry}
 use Rattle.reader.specs.declared.pool.Entry.the-variants.{Absent, Utf8, Integer, Class, Field, Method, NameAndType}
 
@@ -222,3 +223,45 @@ first-tag t u e h =
 
 pub inside-is : (end : ℕ) (e : Entry) (a n : ℕ) → Inside end e → e ≡ Utf8 a n → a + n ≤ end
 inside-is end e a n h k = subst (Inside end) k h
+
+-- a part of the bytes that is this text, in the form that the checker has of a part that is lent
+pub record IsText (s : List ℕ) (r : Span) (t : List ℕ) : Type 0 where
+  pub is : take (r .end - r .start) (drop (r .start) s) ≡ t
+  pub order : r .start ≤ r .end
+  pub inside : r .end ≤ length s
+
+abbrev pub span : ℕ → ℕ → Span
+span a e = record { start = a; end = e }
+
+module _ (s : List ℕ) (pool : List Constant) (i : ℕ) where
+  pub text-none : false ≡ isUtf8 (entry pool i) → IsText s (span 0 0) (text pool i)
+  unfolding text
+  text-none e = record { is = sym (no-text (entry pool i) e); order = omega arith; inside = omega arith }
+
+  pub text-some : (e : Entry) (a n : ℕ) → constantOf s e ≡ entry pool i → Inside (length s) e → e ≡ Utf8 a n → IsText s (span a (a + n)) (text pool i)
+  unfolding text part
+  text-some e a n p h k =
+      let z : a + n - a ≡ n = omega arith in
+      record { is = ap (λ (m : ℕ). take m (drop a s)) z ∙ sym (text-is s e (entry pool i) p a n k); order = omega arith; inside = inside-is (length s) e a n h k }
+
+  pub class-none : false ≡ isClass (entry pool i) → textOf (entry pool 0) ≡ [] → IsText s (span 0 0) (classText pool i)
+  unfolding classText text
+  class-none e z =
+      record { is = sym (ap (λ (k : ℕ). textOf (entry pool k)) (no-name (entry pool i) e) ∙ z); order = omega arith; inside = omega arith }
+    where
+      no-name : (x : Constant) → false ≡ isClass x → nameIndex x ≡ 0
+      no-name absent e = refl
+      no-name (utf8 t) e = refl
+      no-name (integer v) e = refl
+      no-name (classAt j) e = absurd (not-so e)
+      no-name (fieldref j k) e = refl
+      no-name (methodref j k) e = refl
+      no-name (nameAndType j k) e = refl
+
+  pub class-some : (r : Span) (name : ℕ) → nameIndex (entry pool i) ≡ name → IsText s r (text pool name) → IsText s r (classText pool i)
+  unfolding classText
+  class-some r name e h = subst (λ (k : ℕ). IsText s r (text pool k)) (sym e) h
+
+-- number 0 has no text
+pub zero-text : (s t : List ℕ) → textOf (entryIn s t 0) ≡ []
+zero-text s t = ap textOf (sym (entry-none s t 0 refl))

@@ -9,9 +9,9 @@ ghost use lib.ListN.{length, take};
 ghost use Rattle.kit.specs.Words.{words};
 ghost use Rattle.reader.specs.Reading.{pre, many, part};
 ghost use Rattle.reader.specs.Answers.{res, resAs};
-ghost use Rattle.reader.specs.Pool.{utf8, textOk, utf8At, fixedAt, entrySize, entryAt, constantAt, isUtf8, isClass, isNameAndType, text, isArrayName, utf8IndexAt, classIndexAt, pairFault, nameFault, entryFault, checkedAt, tagsAt, poolAt};
+ghost use Rattle.reader.specs.Pool.{utf8, textOk, utf8At, fixedAt, entrySize, entryAt, constantAt, isUtf8, isClass, isNameAndType, text, classText, isArrayName, utf8IndexAt, classIndexAt, pairFault, nameFault, entryFault, checkedAt, tagsAt, poolAt};
 ghost use Rattle.reader.specs.Faults.{sound, firstFault};
-ghost use Rattle.reader.specs.Table.{textByte, constantOf, Inside, poolIn, entryIn};
+ghost use Rattle.reader.specs.Table.{textByte, constantOf, Inside, poolIn, entryIn, IsText};
 
 // A pool entry; a text as its start and length.
 pub enum Entry {
@@ -22,6 +22,12 @@ pub enum Entry {
     Field(usize, usize),
     Method(usize, usize),
     NameAndType(usize, usize),
+}
+
+// A part of the bundle.
+pub struct Span {
+    pub start: usize,
+    pub end: usize,
 }
 
 fn text_byte(s: &[u8], i: usize) -> bool
@@ -236,6 +242,29 @@ pub fn is_name_and_type(s: &[u8], tags: &[u8], i: usize) -> bool
         return false;
     };
     true
+}
+
+// The text that entry i is, empty where it is none.
+pub fn text_of(s: &[u8], tags: &[u8], i: usize) -> Span
+    ensures { λ r. ⌜ IsText (now (s .entry)) r (text (poolIn (now (s .entry)) (now (tags .entry))) i) ⌝ }
+{
+    let Entry::Utf8(a, n) = entry_of(s, tags, i) else {
+        return Span { start: 0, end: 0 };
+    };
+    Span {
+        start: a,
+        end: a + n,
+    }
+}
+
+// The text that the Class i names, empty where it is no Class.
+pub fn class_text_of(s: &[u8], tags: &[u8], i: usize) -> Span
+    ensures { λ r. ⌜ IsText (now (s .entry)) r (classText (poolIn (now (s .entry)) (now (tags .entry))) i) ⌝ }
+{
+    let Entry::Class(name) = entry_of(s, tags, i) else {
+        return Span { start: 0, end: 0 };
+    };
+    text_of(s, tags, name)
 }
 
 // A number that has to name a Utf8.

@@ -1,22 +1,21 @@
 -- From the verdict `pass` to what each phase has shown, as facts.
 use Prim.Native.Nat.{ℕ, zero, suc, _+_, _<_}
-use mathlib.Core.Path.{_≡_, refl, sym, ap, _∙_}
-use mathlib.Core.List.{List, [], _∷_, _++_}
+use mathlib.Core.Path.{_≡_, refl}
+use mathlib.Core.List.{List, [], _∷_}
 use native.Mathlib.Omega.{arith}
-use lib.ListN.{length, getD, drop}
+use lib.ListN.{length, getD}
 use lib.Seq.{getD-drop}
-use Rattle.kit.specs.Claims.{Claim, claim, AllT, Ruling, pass, fail, verdict, then, relabel, fail-pass, then-pass-left, then-pass-right, relabel-pass, pass-all}
+use Rattle.kit.specs.Claims.{AllT, Ruling, pass, fail, verdict, relabel, fail-pass, then-pass-left, then-pass-right, relabel-pass, pass-all}
 use Rattle.reader.specs.Verdicts.{Fault, fault, Refusal, inMethod, Verdict, each}
 use Rattle.reader.specs.Reading.{Res, ok, bad}
 use Rattle.reader.specs.BuiltIns.{firstClass}
 use Rattle.reader.specs.Bundle.{ClassFile, bundleAt}
 use Rattle.reader.specs.Program.{Program, Class, Method, noClass, noMethod, class, method, programOf}
-use Rattle.reader.specs.Link.{uniqueClass, superClaims, chainClaims, memberClaims, linked, Read, refused, program, linkedAs, link, readAs, readBundle}
+use Rattle.reader.specs.Link.{uniqueClass, superClaims, chainClaims, memberClaims, linked, Read, refused, program, linkedAs, readAs, readBundle}
 use Rattle.verifier.specs.Shape.{shapeClaims}
 use Rattle.verifier.specs.Frames.{Frame, frames}
 use Rattle.verifier.specs.Walk.{walkClaims}
 use Rattle.verifier.specs.Verify.{overMethods, overClasses, bundleClasses, shape, walked, typing, shapedAs, shapeRead, readShaped, typeRead, verdictOf}
-use Rattle.soundness.specs.Base.{AllT-left, AllT-right}
 
 -- what linking has shown of the class files fs
 pub record Linked (fs : List ClassFile) : Type 0 where

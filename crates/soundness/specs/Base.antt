@@ -1,13 +1,13 @@
 -- Tests and choosers taken apart, and two lists in step.
-use mathlib.Core.Path.{_≡_, refl, sym, ap, _∙_, subst}
-use mathlib.Core.Bool.{Bool, true, false, cond, not}
-use mathlib.Core.List.{List, [], _∷_, _++_, reverse, reverseAux}
+use mathlib.Core.Path.{_≡_, refl, ap}
+use mathlib.Core.Bool.{Bool, true, false, cond}
+use mathlib.Core.List.{List, [], _∷_, _++_}
 use mathlib.Core.Logic.{_⊎_, inl, inr}
-use Prim.Native.Nat.{ℕ, zero, suc, _+_, _<_, _≤_}
+use Prim.Native.Nat.{ℕ, zero, suc, _<_}
 use native.Mathlib.Omega.{arith}
-use lib.ListN.{length, getD, set, drop, replicate}
+use lib.ListN.{length, getD, set, replicate}
 use lib.Dec.{T, eqb, eqb→eq}
-use Rattle.kit.specs.Claims.{Claim, claim, AllT, all-split}
+use Rattle.kit.specs.Claims.{Claim, AllT, all-split}
 
 -- tests
 pub is-true : (b : Bool) → T b → b ≡ true

@@ -1,17 +1,16 @@
 -- A heap has its types: each block's header, size, readiness and contents, no two overlap; and each way to change the heap keeps that.
-use Prim.Native.Nat.{ℕ, zero, suc, _+_, _<_, _≤_}
+use Prim.Native.Nat.{ℕ, _+_, _<_, _≤_}
 use mathlib.Core.Path.{_≡_, refl, sym, ap, _∙_}
 use mathlib.Core.Bool.{Bool, true, false, cond}
-use mathlib.Core.List.{List, [], _∷_}
 use mathlib.Core.Option.{Option, none, some}
 use native.Mathlib.Omega.{arith}
 use native.Mathlib.Decide.{ℕ-discrete, decLt}
 use lib.ListN.{length, getD}
-use lib.Dec.{T, eqb, eqb→eq, leb, leb→le}
+use lib.Dec.{T, eqb, eqb→eq, leb→le}
 use Rattle.reader.specs.Descriptors.{Ref, cls, arr, Desc, dint, dref, dimensions}
 use Rattle.reader.specs.Program.{Program, layout}
-use Rattle.verifier.specs.Types.{Key, refFits}
-use Rattle.machine.specs.Heap.{Heap, Val, num, ref, cell, refOf, baseOf, typeAt, sizeAt, readyAt, elementAt, store, markReady, need, allocate, hasRoom, fromCell, toCell, valueFits}
+use Rattle.verifier.specs.Types.{Key}
+use Rattle.machine.specs.Heap.{Heap, Val, cell, refOf, baseOf, typeAt, sizeAt, readyAt, elementAt, store, markReady, need, allocate, hasRoom, fromCell, valueFits}
 use Rattle.soundness.specs.Cells.{stored, unstored, store-used, store-cells, alloc-used, alloc-cells, alloc-old, alloc-size, alloc-ready, alloc-new, alloc-type, Same, same-type, same-size, same-ready, same-element}
 use Rattle.soundness.specs.Typing.{Own, ready, born, isReady, HTy, hty, HTys, upd, upd-same, upd-else, VD, vdint, vdnul, vdref, Keeps, keeps-self, keeps-more, keepVD, zero-ok}
 

@@ -1,14 +1,13 @@
 -- The heap's cells: what a store and an allocation leave and change; a header read back as the type that it was made from.
 use Prim.Native.Nat.{ℕ, zero, suc, _+_, _-_, _<_, _≤_}
 use mathlib.Core.Path.{_≡_, refl, sym, ap, _∙_}
-use mathlib.Core.Bool.{Bool, true, false, cond}
-use mathlib.Core.List.{List, [], _∷_, _++_}
+use mathlib.Core.List.{List, _++_}
 use native.Mathlib.Omega.{arith}
-use lib.ListN.{length, getD, take, drop, set, replicate, length-append, length-drop, length-replicate, length-set, getD-replicate, List·getD-append}
+use lib.ListN.{length, getD, take, drop, replicate, length-append, length-drop, length-replicate, length-set, getD-replicate, List·getD-append}
 use lib.Seq.{getD-append-add, getD-set-same, getD-set-other, getD-take, length-take-le}
-use lib.Dec.{T, eqb, eqb→eq, ltb, ltb→lt}
+use lib.Dec.{T, eqb, eqb→eq, ltb→lt}
 use Rattle.reader.specs.Descriptors.{Ref, cls, arr, Desc, dint, dref, knownRef, knownDesc, dimensions, depthOf}
-use Rattle.machine.specs.Heap.{Heap, heap, cell, intBase, descOf, refOf, baseOf, elementBase, typeAt, sizeAt, readyAt, elementAt, store, markReady, need, header, allocate}
+use Rattle.machine.specs.Heap.{Heap, cell, intBase, descOf, refOf, baseOf, elementBase, typeAt, sizeAt, readyAt, elementAt, store, need, header, allocate}
 use Rattle.soundness.specs.Base.{is-false}
 
 -- ---- a store

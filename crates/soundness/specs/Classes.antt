@@ -1,16 +1,15 @@
 -- The order of the classes: reflexive and transitive; and that of types.
-use Prim.Native.Nat.{ℕ, zero, suc, _+_, _<_, _≤_}
-use mathlib.Core.Path.{_≡_, refl, sym, ap, _∙_}
-use mathlib.Core.Bool.{Bool, true, false, cond}
-use mathlib.Core.List.{List, [], _∷_, _++_, map}
+use Prim.Native.Nat.{ℕ, zero, suc, _<_, _≤_}
+use mathlib.Core.Path.{_≡_, sym}
+use mathlib.Core.Bool.{false}
+use mathlib.Core.List.{[]}
 use mathlib.Core.Logic.{_⊎_, inl, inr}
-use native.Mathlib.Omega.{arith}
-use lib.ListN.{length, getD}
-use lib.Dec.{T, eqb, eqb→eq, eqb-refl, ltb}
+use lib.ListN.{length}
+use lib.Dec.{T, eqb, eqb→eq, eqb-refl}
 use Rattle.reader.specs.Names.{Text, init}
-use Rattle.reader.specs.Descriptors.{Ref, cls, arr, Desc, dint, dref, MethodType, methodTypeAt}
+use Rattle.reader.specs.Descriptors.{Ref, cls, arr, Desc, dint, dref, methodTypeAt}
 use Rattle.reader.specs.BuiltIns.{firstClass}
-use Rattle.reader.specs.Program.{Program, Class, Field, Method, methodTypeOr, class, method, classCount, isConstructor, upTo, below, methodSigs, lookup, layout}
+use Rattle.reader.specs.Program.{Program, methodTypeOr, class, method, classCount, isConstructor, upTo, below, methodSigs, lookup, layout}
 use Rattle.reader.specs.Link.{agrees}
 use Rattle.verifier.specs.Types.{refFits, descFits}
 use Rattle.machine.specs.Heap.{intBase}

@@ -8,7 +8,7 @@ use lib.Dec.{T}
 use Rattle.kit.specs.Claims.{pass}
 use Rattle.reader.specs.BuiltIns.{firstClass}
 use Rattle.reader.specs.Descriptors.{Desc}
-use Rattle.reader.specs.Program.{Program, Method, method}
+use Rattle.reader.specs.Program.{Program, method}
 use Rattle.reader.specs.Link.{program}
 use Rattle.verifier.specs.Verify.{readShaped, verdictOf}
 use Rattle.machine.specs.Heap.{Heap, Val, valueFits}

@@ -1,20 +1,19 @@
 -- What phase A has shown of the class files: there are at most 16; `<init>` is not static and returns nothing.
-use Prim.Native.Nat.{ℕ, zero, suc, _+_, _<_, _≤_}
-use mathlib.Core.Path.{_≡_, refl, sym, ap, _∙_}
+use Prim.Native.Nat.{ℕ, zero, suc, _≤_}
+use mathlib.Core.Path.{_≡_, refl, sym, ap}
 use mathlib.Core.Bool.{Bool, true, false, cond}
-use mathlib.Core.List.{List, [], _∷_, _++_}
+use mathlib.Core.List.{List, [], _∷_}
 use native.Mathlib.Omega.{arith}
-use lib.ListN.{length, getD}
+use lib.ListN.{length}
 use lib.Dec.{T, eqb, eqb→eq, ltb}
-use Rattle.reader.specs.Limits.{maxBundle, maxClasses, maxMethods, maxParameters}
-use Rattle.reader.specs.Reading.{Res, ok, bad, andThen, pre, many, shortAt}
-use Rattle.reader.specs.Names.{Text, isInit, methodName, unqualified}
-use Rattle.reader.specs.Descriptors.{MethodType, methodTypeAt, fieldTypeAt}
+use Rattle.reader.specs.Limits.{maxBundle, maxClasses, maxParameters}
+use Rattle.reader.specs.Reading.{Res, ok, bad, andThen, pre, many}
+use Rattle.reader.specs.Names.{Text, isInit, methodName}
+use Rattle.reader.specs.Descriptors.{MethodType, methodTypeAt}
 use Rattle.reader.specs.Pool.{Constant, text, utf8IndexAt}
 use Rattle.reader.specs.Members.{Found, Body, Member, accessAt, nameAt, slots, methodTypeOk, descriptorAt, attributesAt, memberAt}
 use Rattle.reader.specs.Bundle.{ClassFile, magicAt, membersAt, classFileAt, classFilesAt, bundleAt}
-use Rattle.soundness.specs.Base.{is-true}
-use Rattle.soundness.specs.Parsing.{not-ok, Passed, then-ok, test-ok, Each, enil, econs, pre-each, many-each}
+use Rattle.soundness.specs.Parsing.{not-ok, then-ok, test-ok, Each, enil, econs, many-each}
 
 -- a method as it was read
 pub record Read (m : Member) : Type 0 where

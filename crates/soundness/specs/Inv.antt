@@ -1,38 +1,39 @@
 -- The invariant of a run, and how each way on keeps it.
-use Prim.Native.Nat.{ℕ, zero, suc, _+_, _-_, _<_, _≤_}
-use mathlib.Core.Path.{_≡_, refl, sym, ap, _∙_}
+use Prim.Native.Nat.{ℕ, suc, _+_, _≤_}
+use mathlib.Core.Path.{_≡_, refl}
 use mathlib.Core.Bool.{Bool, true, false, cond, not, Bool·beq}
 use mathlib.Core.List.{List, [], _∷_, _++_}
 use mathlib.Core.Option.{Option, none, some}
 use native.Mathlib.Omega.{arith}
-use lib.ListN.{length, getD}
-use lib.Dec.{T, eqb, leb, ltb, eqb→eq, leb→le, le→leb}
+use lib.ListN.{length}
+use lib.Dec.{T, leb, eqb→eq, le→leb}
 use Rattle.kit.specs.Claims.{AllT}
-use Rattle.reader.specs.Descriptors.{Ref, cls, arr, Desc, dint, dref}
-use Rattle.reader.specs.Members.{Body, Handler}
+use Rattle.reader.specs.Descriptors.{Ref, cls, Desc}
+use Rattle.reader.specs.Members.{Handler}
 use Rattle.reader.specs.Program.{Program, Method, method, below}
 use Rattle.verifier.specs.Opcodes.{body, codeOf, sizeAt}
-use Rattle.verifier.specs.Lines.{Line, lines, isStart}
+use Rattle.verifier.specs.Lines.{Line}
 use Rattle.verifier.specs.Shape.{catchClass}
-use Rattle.verifier.specs.Types.{Key, at, self, Ty, top, ini, uninit, refFits}
-use Rattle.verifier.specs.States.{State, state, flag, stack, slotsFit, stateFits}
+use Rattle.verifier.specs.Types.{Key, at, self, Ty, ini, refFits}
+use Rattle.verifier.specs.States.{State, state, stack, slotsFit, stateFits}
 use Rattle.verifier.specs.Frames.{Frame}
 use Rattle.verifier.specs.Walk.{frameAt, intoFrame, covers, handlerClaims, handlersClaims, walk, walkClaims}
-use Rattle.machine.specs.Heap.{Heap, Val, empty, num, ref}
-use Rattle.machine.specs.Machine.{Call, call, Machine, machine, End, returned, uncaught, outOfSteps, heapFull, depthFull, stuck, Result, next, ended, stopped, Here, only, goOn, catcher, Landing, nowhere, landing, landingAt, land, landed}
-use Rattle.soundness.specs.Base.{first-of, second-of, is-true, guarded, AllT-left, AllT-right, All2, anil, acons, all2-map, all2-length}
+use Rattle.machine.specs.Heap.{Heap, Val, ref}
+use Rattle.machine.specs.Machine.{Call, call, Machine, machine, End, heapFull, depthFull, Result, next, ended, stopped, only, catcher, Landing, nowhere, landing, landingAt, land, landed}
+use Rattle.soundness.specs.Base.{first-of, second-of, guarded, AllT-left, AllT-right, All2, anil, acons, all2-map, all2-length}
 use Rattle.soundness.specs.Demand3.{EndOk}
 use Rattle.soundness.specs.Classes.{Link}
-use Rattle.soundness.specs.Tables.{Stands, Table, found-stands}
-use Rattle.soundness.specs.Typing.{Own, ready, born, HTy, hty, HTys, VD, VT, vini, Keeps, keeps-down, keeps-self, keeps-then, keepVD, keepVT, fitAll}
+use Rattle.soundness.specs.Tables.{Table, found-stands}
+use Rattle.soundness.specs.Typing.{ready, hty, HTys, VD, VT, vini, Keeps, keeps-down, keeps-self, keeps-then, keepVT, fitAll}
 use Rattle.soundness.specs.Blocks.{HOK}
-use Rattle.soundness.specs.Walk.{Lined, Seen, Into, same, fitted, fallen, leap}
+use Rattle.soundness.specs.Walk.{Lined, Into, same, fitted, fallen, leap}
 use Rattle.soundness.specs.Walk.{Here as At}
 
 -- what typing has shown of a method
 pub record Checked (P : Program) (M : Method) (fs : List Frame) : Type 0 where
   pub claims : AllT (walkClaims P M fs)
   pub table : Table P M fs
+  pub single : length (M .results) ≤ 1
 
 -- a call with the receiver q may return: a constructor has made it
 pub data Done (Ψ : HTys) : ℕ → Type 0 where

@@ -1,16 +1,16 @@
 -- An object's fields: a class's begin with its parent's, so a field stands at one place in a class and in those below it.
-use Prim.Native.Nat.{ℕ, zero, suc, _+_, _-_, _<_, _≤_}
-use mathlib.Core.Path.{_≡_, refl, sym, ap, _∙_}
+use Prim.Native.Nat.{ℕ, zero, suc, _+_, _<_, _≤_}
+use mathlib.Core.Path.{_≡_, refl, ap, _∙_}
 use mathlib.Core.Bool.{Bool, true, false, cond}
-use mathlib.Core.List.{List, [], _∷_, _++_, map}
+use mathlib.Core.List.{[], _++_}
 use mathlib.Core.Logic.{_⊎_, inl, inr}
 use native.Mathlib.Omega.{arith}
 use lib.ListN.{length, getD, length-append, length-map, List·getD-append, List·getD-map}
 use lib.Seq.{getD-append-add}
 use lib.Dec.{T, eqb, eqb→eq, eqb-refl}
-use Rattle.reader.specs.Descriptors.{Desc, dint}
-use Rattle.reader.specs.Program.{Program, Class, Field, noField, class, classCount, upTo, below, ownTypes, layoutTo, layout}
-use Rattle.soundness.specs.Base.{either-of, nonzero}
+use Rattle.reader.specs.Descriptors.{dint}
+use Rattle.reader.specs.Program.{Program, Field, noField, class, classCount, upTo, below, ownTypes, layoutTo, layout}
+use Rattle.soundness.specs.Base.{either-of}
 use Rattle.soundness.specs.Classes.{Link, parent}
 
 module _ (P : Program) where

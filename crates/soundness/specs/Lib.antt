@@ -14,3 +14,9 @@ pub mod Cells
 pub mod Typing
 pub mod Blocks
 pub mod Inv
+pub mod Steps
+pub mod Forms
+pub mod Objects
+pub mod Calls
+pub mod Exec
+pub mod Theorem

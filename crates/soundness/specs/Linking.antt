@@ -1,24 +1,22 @@
 -- What reading and linking give: the record `Link`, from an accepted bundle.
 use Prim.Native.Nat.{ℕ, zero, suc, _+_, _-_, _<_, _≤_}
 use mathlib.Core.Path.{_≡_, refl, sym, ap, _∙_}
-use mathlib.Core.Bool.{Bool, true, false, cond}
+use mathlib.Core.Bool.{false}
 use mathlib.Core.List.{List, [], _∷_, _++_, map}
 use native.Mathlib.Omega.{arith}
 use native.Mathlib.Decide.{decLt}
-use lib.ListN.{length, getD, length-append, length-map, List·getD-append, List·getD-map, List·getD-eq-default}
+use lib.ListN.{length, getD, length-append, length-map, List·getD-append, List·getD-eq-default}
 use lib.Seq.{getD-append-add}
 use lib.Dec.{T, eqb}
-use Rattle.kit.specs.Claims.{Claim, claim, AllT}
+use Rattle.kit.specs.Claims.{Claim, AllT}
 use Rattle.reader.specs.Limits.{maxClasses}
-use Rattle.reader.specs.Verdicts.{Refusal, each}
-use Rattle.reader.specs.Names.{Text, init, isInit}
-use Rattle.reader.specs.Descriptors.{methodTypeAt}
+use Rattle.reader.specs.Verdicts.{each}
+use Rattle.reader.specs.Names.{Text, init}
 use Rattle.reader.specs.Members.{Member, none}
-use Rattle.reader.specs.Bundle.{ClassFile, Super, zero′}
+use Rattle.reader.specs.Bundle.{ClassFile, zero′}
 use Rattle.reader.specs.BuiltIns.{BuiltIn, builtIns, firstClass, object}
-use Rattle.reader.specs.Program.{Program, Class, Field, Method, noClass, noMethod, methodTypeOr, class, method, classCount, isConstructor, numberIn, classNames, methodOf, classOf, classesFrom, builtInsFrom, programOf, upTo, below, methodSigs, lookup, layoutTo, layout}
+use Rattle.reader.specs.Program.{Program, Class, Method, noClass, noMethod, class, method, classCount, isConstructor, numberIn, classNames, methodOf, classOf, classesFrom, builtInsFrom, programOf, upTo, below, methodSigs, lookup, layoutTo, layout}
 use Rattle.reader.specs.Link.{chainClaims, allKnown, agrees, fieldClaims, methodClaims, memberClaims}
-use Rattle.machine.specs.Heap.{intBase}
 use Rattle.soundness.specs.Base.{AllT-left, AllT-right, second-of, right-of}
 use Rattle.soundness.specs.Parsing.{Each, each-at, results-length}
 use Rattle.soundness.specs.Files.{Read, File, bundle-read}

@@ -1,8 +1,8 @@
 -- The first of a name and descriptor from a class upward: where it stands; and what a class below finds in its place.
-use Prim.Native.Nat.{ℕ, zero, suc, _+_, _<_, _≤_}
+use Prim.Native.Nat.{ℕ, zero, suc, _<_, _≤_}
 use mathlib.Core.Path.{_≡_, refl, sym, ap, _∙_}
 use mathlib.Core.Bool.{Bool, true, false, cond, Bool·beq}
-use mathlib.Core.List.{List, [], _∷_, _++_, map}
+use mathlib.Core.List.{List, [], _∷_}
 use mathlib.Core.Logic.{_⊎_, inl, inr}
 use native.Mathlib.Omega.{arith}
 use native.Mathlib.Decide.{decLt}
@@ -10,9 +10,9 @@ use lib.ListN.{length, getD, length-map, List·getD-map}
 use lib.Dec.{T, eqb, eqb→eq, eqb-refl, ltb, ltb→lt}
 use Rattle.kit.specs.Lists.{eqList, eqList-true, eqList-eq}
 use Rattle.reader.specs.Names.{Text, init, isInit}
-use Rattle.reader.specs.Descriptors.{Desc, methodTypeAt}
+use Rattle.reader.specs.Descriptors.{methodTypeAt}
 use Rattle.reader.specs.BuiltIns.{firstClass}
-use Rattle.reader.specs.Program.{Program, Class, Field, Method, noMethod, noField, methodTypeOr, Signature, signature, class, method, classCount, isConstructor, upTo, below, sameSignature, indexOf, fieldSigs, methodSigs, Spot, nowhere, spot, seek, lookup}
+use Rattle.reader.specs.Program.{Program, Class, Method, noMethod, methodTypeOr, Signature, signature, class, method, classCount, upTo, below, sameSignature, indexOf, methodSigs, nowhere, spot, seek, lookup}
 use Rattle.reader.specs.Link.{agrees}
 use Rattle.soundness.specs.Base.{is-true, first-of, second-of, either-of, left-of, right-of}
 use Rattle.soundness.specs.Classes.{Link, parent, up-below, up-root}
@@ -201,3 +201,7 @@ module _ (P : Program) (L : Link P) (g : Signature) where
               ∙ ap (λ (h : Signature). methodTypeOr (methodTypeAt (L .number) (h .descriptor) 0) .results) y ∙ sym (L .results d j (in-bundle b) (method-there b));
           static = x .3;
         }
+
+    pub lookup-bundle : (c d j : ℕ) → lookup P methodSigs g c ≡ spot d j → firstClass ≤ d
+    unfolding lookup
+    lookup-bundle c d j p = in-bundle (seek-at P methodSigs g (classCount P) c d j p)

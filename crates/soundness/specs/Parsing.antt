@@ -2,14 +2,14 @@
 use Prim.Native.Nat.{ℕ, zero, suc, _+_, _-_, _<_, _≤_}
 use mathlib.Core.Path.{_≡_, refl, sym, ap, _∙_}
 use mathlib.Core.Bool.{Bool, true, false, cond}
-use mathlib.Core.List.{List, [], _∷_, _++_}
+use mathlib.Core.List.{List, [], _∷_}
 use native.Mathlib.Omega.{arith}
 use lib.ListN.{length, getD}
 use lib.Dec.{T, eqb, ltb}
 use Rattle.reader.specs.Limits.{maxDimensions}
 use Rattle.reader.specs.Reading.{Res, ok, bad, andThen, pre, many, part}
 use Rattle.reader.specs.Names.{Text, className}
-use Rattle.reader.specs.Descriptors.{Desc, dint, dref, cls, arr, MethodType, methodType, semicolon, namedAt, baseAt, typeAt, paramsAt, resultsAt, whole, methodTypeAt}
+use Rattle.reader.specs.Descriptors.{Desc, MethodType, semicolon, namedAt, baseAt, typeAt, paramsAt, resultsAt, whole, methodTypeAt}
 use Rattle.reader.specs.Program.{methodTypeOr}
 
 pub not-ok : {A B : Type 0} (n p e : ℕ) (x : A) → _≡_ {A = Res A} (bad n p) (ok x e) → B
@@ -76,6 +76,14 @@ unfolding pre
 like-pre l m (lok r) = lok tt
 like-pre l m lbad = lbad
 
+abbrev resultsIn : Res MethodType → List Desc
+resultsIn (ok u e) = u .results
+resultsIn (bad n p) = []
+
+abbrev listIn : Res (List Desc) → List Desc
+listIn (ok l e) = l
+listIn (bad n p) = []
+
 module _ (n m : Text → ℕ) (t : Text) (p q : ℕ) where
   base-like : (i : ℕ) → Like any (baseAt n t p i) (baseAt m t q i)
   unfolding baseAt namedAt
@@ -115,3 +123,27 @@ results-length n m t p q u e h = go (method-like n m t p q) h
     go : {x y : Res MethodType} → Like (λ (a b : MethodType). length (a .results) ≡ length (b .results)) x y → x ≡ ok u e → length (methodTypeOr y .results) ≡ length (u .results)
     go (lok {a} {b} r) h = let z : a ≡ u = cc in sym r ∙ ap (λ (v : MethodType). length (v .results)) z
     go lbad h = not-ok _ _ e u h
+
+type-few : (n : Text → ℕ) (t : Text) (p : ℕ) (u : MethodType) (e : ℕ) → methodTypeAt n t p ≡ ok u e → length (u .results) ≤ 1
+unfolding methodTypeAt resultsAt whole
+type-few n t p u e h =
+    let a = then-ok (paramsAt n t p (length t) 1) _ u e (test-ok (eqb (getD t 0 0) 40) _ 7 p u e h .1) in
+    let b = then-ok (resultsAt n t p (a .past)) _ u e (a .rest) in
+    let c = test-ok (eqb (b .past) (length t)) _ 7 p u e (b .rest) .1 in
+    let z : b .val ≡ u .results = ap resultsIn c in
+    rw (← z) (go (eqb (getD t (a .past) 0) 86) (b .val) (b .past) (a .past + 1) (typeAt n t p maxDimensions (a .past)) (b .first))
+  where
+    one : (rs : List Desc) (z : ℕ) (r : Res Desc) → _≡_ {A = Res (List Desc)} (andThen r λ d e. ok (d ∷ []) e) (ok rs z) → length rs ≤ 1
+    one rs z r h = let x = then-ok r _ rs z h in let y : x .val ∷ [] ≡ rs = ap listIn (x .rest) in rw (← y) (omega arith)
+
+    go : (v : Bool) (rs : List Desc) (z i : ℕ) (r : Res Desc) → _≡_ {A = Res (List Desc)} (cond v (ok [] i) (andThen r λ d e. ok (d ∷ []) e)) (ok rs z) → length rs ≤ 1
+    go true rs z i r h = let y : [] ≡ rs = cc in rw (← y) (omega arith)
+    go false rs z i r h = one rs z r h
+
+-- none or one
+pub results-few : (n : Text → ℕ) (t : Text) (p : ℕ) → length (methodTypeOr (methodTypeAt n t p) .results) ≤ 1
+results-few n t p = go (methodTypeAt n t p) refl
+  where
+    go : (r : Res MethodType) → methodTypeAt n t p ≡ r → length (methodTypeOr r .results) ≤ 1
+    go (ok u e) q = type-few n t p u e q
+    go (bad m q) e = omega arith

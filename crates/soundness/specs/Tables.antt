@@ -1,23 +1,23 @@
 -- A frame table that was read: each frame stands at an instruction and is no deeper than max_stack.
 use Prim.Native.Nat.{ℕ, zero, suc, _+_, _≤_}
-use mathlib.Core.Path.{_≡_, refl, sym, ap, _∙_}
+use mathlib.Core.Path.{_≡_, refl}
 use mathlib.Core.Bool.{Bool, true, false, cond}
-use mathlib.Core.List.{List, [], _∷_, _++_, reverse}
-use mathlib.Core.Option.{Option, none, some}
+use mathlib.Core.List.{List, [], _∷_}
+use mathlib.Core.Option.{none, some}
 use native.Mathlib.Omega.{arith}
 use lib.ListN.{length, getD, length-reverse}
 use lib.Dec.{T, eqb, eqb→eq, leb, ltb, leb→le}
 use Rattle.reader.specs.Limits.{maxFrames}
 use Rattle.reader.specs.Reading.{Res, ok, bad, andThen, pre, num2At}
-use Rattle.reader.specs.Members.{Found, none, once, twice, Body}
+use Rattle.reader.specs.Members.{Found, none, once, twice}
 use Rattle.reader.specs.Program.{Program, Method}
 use Rattle.verifier.specs.Opcodes.{body}
 use Rattle.verifier.specs.Lines.{Line, lines, isStart}
 use Rattle.verifier.specs.Types.{Ty}
-use Rattle.verifier.specs.States.{State, state, stack, parameterTys}
-use Rattle.verifier.specs.Frames.{Frame, frame, Written, formAt, noTop, good, judged, frameAt, stateOf, framesFrom, tableAt, framesIn, frames}
+use Rattle.verifier.specs.States.{State, stack, parameterTys}
+use Rattle.verifier.specs.Frames.{Frame, frame, Written, formAt, good, judged, frameAt, stateOf, framesFrom, tableAt, framesIn, frames}
 use Rattle.verifier.specs.Walk.{frameAt as stateAt}
-use Rattle.soundness.specs.Base.{first-of, second-of, is-true}
+use Rattle.soundness.specs.Base.{first-of, second-of}
 
 pub record Stands (P : Program) (M : Method) (o : ℕ) (F : State) : Type 0 where
   pub start : T (isStart (lines P M) o)

@@ -1,22 +1,22 @@
 -- What a value is when it has a type: a ghost function says what stands at each address, and who owns it.
 use Prim.Native.Nat.{ℕ, zero, suc, _+_, _<_, _≤_}
 use mathlib.Core.Path.{_≡_, refl, sym, ap, _∙_, subst}
-use mathlib.Core.Bool.{Bool, true, false, cond, not}
+use mathlib.Core.Bool.{Bool, true, false, cond}
 use mathlib.Core.List.{List, [], _∷_, _++_}
 use mathlib.Core.Option.{Option, none, some}
 use native.Mathlib.Omega.{arith}
 use native.Mathlib.Decide.{ℕ-discrete}
-use lib.ListN.{length, getD, drop}
+use lib.ListN.{length, drop}
 use lib.Dec.{T, eqb, eqb→eq, eqb-refl, leb, leb→le}
 use Rattle.kit.specs.Claims.{AllT}
-use Rattle.reader.specs.Descriptors.{Ref, cls, arr, Desc, dint, dref}
+use Rattle.reader.specs.Descriptors.{Ref, cls, Desc, dint, dref}
 use Rattle.reader.specs.Program.{Program, Method, below}
-use Rattle.verifier.specs.Types.{Key, at, self, isSelf, isAt, sameKey, Ty, top, int, null, ini, uninit, isUninit, tyOf, refFits, fits}
-use Rattle.verifier.specs.States.{topOf, operand, slotsFit, replaceAll, noCopy}
+use Rattle.verifier.specs.Types.{Key, at, self, sameKey, Ty, top, int, null, ini, uninit, isUninit, tyOf, refFits, fits}
+use Rattle.verifier.specs.States.{operand, slotsFit, replaceAll, noCopy}
 use Rattle.verifier.specs.Rule.{keyClass}
 use Rattle.verifier.specs.Walk.{operandsFit}
-use Rattle.machine.specs.Heap.{Val, empty, num, ref, fromCell, toCell}
-use Rattle.soundness.specs.Base.{is-true, is-false, All2, anil, acons, all2-map}
+use Rattle.machine.specs.Heap.{Val, num, ref, fromCell, toCell}
+use Rattle.soundness.specs.Base.{is-true, is-false, All2, anil, acons}
 use Rattle.soundness.specs.Classes.{Link, ref-trans}
 
 -- An object is ready, or it is the uninitialised object k of the call with d calls below it.

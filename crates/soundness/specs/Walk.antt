@@ -1,25 +1,23 @@
 -- From the walk to the claims at each offset that control reaches.
-use Prim.Native.Nat.{ℕ, zero, suc, _+_, _<_, _≤_}
-use mathlib.Core.Path.{_≡_, refl, sym, ap, _∙_}
-use mathlib.Core.Bool.{Bool, true, false, cond, not}
+use Prim.Native.Nat.{ℕ, zero, suc, _+_}
+use mathlib.Core.Path.{_≡_, refl}
+use mathlib.Core.Bool.{Bool, true, false, cond}
 use mathlib.Core.List.{List, [], _∷_, _++_}
 use mathlib.Core.Option.{Option, none, some}
 use native.Mathlib.Omega.{arith}
 use lib.ListN.{length}
 use lib.Dec.{T, eqb, eqb→eq, leb, ltb}
-use Rattle.kit.specs.Claims.{Claim, claim, AllT, label, label-all}
-use Rattle.reader.specs.Verdicts.{Fault, fault, faultAt}
-use Rattle.reader.specs.Members.{Body, Handler}
+use Rattle.kit.specs.Claims.{Claim, AllT, label, label-all}
+use Rattle.reader.specs.Verdicts.{Fault, faultAt}
 use Rattle.reader.specs.Program.{Program, Method}
-use Rattle.verifier.specs.Instruction.{Instr, targets, falls}
+use Rattle.verifier.specs.Instruction.{Instr, targets}
 use Rattle.verifier.specs.Opcodes.{body, codeOf, instruction, sizeAt}
 use Rattle.verifier.specs.Lines.{Line, line, linesFrom, lines, isStart}
-use Rattle.verifier.specs.Types.{Ty}
-use Rattle.verifier.specs.States.{State, state, flag, stack, stateFits, startState}
-use Rattle.verifier.specs.Frames.{Frame, frame}
-use Rattle.verifier.specs.Rule.{Rule, rule}
-use Rattle.verifier.specs.Walk.{frameAt, intoFrame, meets, merged, operandsFit, operandClaims, handlersClaims, branchClaims, local, onward, ending, walk, walkClaims}
-use Rattle.soundness.specs.Base.{AllT-left, AllT-right, either-of}
+use Rattle.verifier.specs.States.{State, flag, stack, stateFits, startState}
+use Rattle.verifier.specs.Frames.{Frame}
+use Rattle.verifier.specs.Rule.{rule}
+use Rattle.verifier.specs.Walk.{frameAt, intoFrame, meets, merged, operandsFit, operandClaims, handlersClaims, branchClaims, local, onward, walk, walkClaims}
+use Rattle.soundness.specs.Base.{AllT-left, AllT-right}
 
 -- what the scan lists is what the machine fetches
 pub data Lined (P : Program) (M : Method) : ℕ → List Line → Type 0 where

@@ -11,7 +11,10 @@ pub mod Shape
 pub mod Frames
 pub mod Rule
 pub mod TypeLaws
+pub mod Slots
+pub mod SlotLaws
 pub mod Walk
 pub mod Verify
 pub mod Computing
 pub mod Laws
+pub mod Counts

@@ -186,42 +186,46 @@ impl Ty {
     }
 }
 
-// ---- Ancestry. The n classes' parents are the words of the table t from x on; what the functions answer is so of every program with these
-// parents.
+// Where the classes' parents stand in a table of words: class 0's, and how many there are. What the functions below answer is so of every
+// program with these parents.
+pub struct Kin {
+    pub at: usize,
+    pub count: usize,
+}
 
 // Object where there is no such class.
-pub fn parent(t: &[u8], x: usize, n: usize, c: u32) -> u32
-    ensures { λ r. ⌜ r ≡ class (lineage (now (t .entry)) x n) c .parent ⌝ }
+pub fn parent(t: &[u8], kin: Kin, c: u32) -> u32
+    ensures { λ r. ⌜ r ≡ class (lineage (now (t .entry)) (kin .at) (kin .count)) c .parent ⌝ }
 {
     let i = c as usize;
-    if n <= i {
+    if kin.count <= i {
         return 0;
     }
-    if t.len() / 4 <= x {
+    if t.len() / 4 <= kin.at {
         return 0;
     }
-    kit::word(t, x + i)
+    kit::word(t, kin.at + i)
 }
 
 // Whether d is c or an ancestor of it.
-pub fn is_below(t: &[u8], x: usize, n: usize, c: u32, d: u32) -> bool
-    ensures { λ r. ⌜ r ≡ below (lineage (now (t .entry)) x n) c d ⌝ }
+pub fn is_below(t: &[u8], kin: Kin, c: u32, d: u32) -> bool
+    ensures { λ r. ⌜ r ≡ below (lineage (now (t .entry)) (kin .at) (kin .count)) c d ⌝ }
 {
     let mut at = c;
-    let mut left = n;
+    let mut left = kin.count;
     while 0 < left {
         if at == d {
             return true;
         }
-        at = parent(t, x, n, at);
+        at = parent(t, kin, at);
         left -= 1;
     }
     at == d
 }
 
 // Whether what has the base b fits where the base e is asked.
-fn base_fits(t: &[u8], x: usize, n: usize, b: u32, e: u32) -> bool
-    ensures { λ r. ⌜ r ≡ descFits (lineage (now (t .entry)) x n) (baseOf b) (baseOf e) ⌝ }
+fn base_fits(t: &[u8], kin: Kin, b: u32, e: u32) -> bool
+    ensures { λ r. ⌜ r ≡ descFits (lineage (now (t .entry)) (kin .at) (kin .count)) (baseOf b) (baseOf e) ⌝ }
 {
     if e == Ty::INT_BASE {
         return b == Ty::INT_BASE;
@@ -229,15 +233,15 @@ fn base_fits(t: &[u8], x: usize, n: usize, b: u32, e: u32) -> bool
     if b == Ty::INT_BASE {
         return false;
     }
-    is_below(t, x, n, b, e)
+    is_below(t, kin, b, e)
 }
 
 // The same under brackets: as deep, or deeper where Object is asked.
-fn nest_fits(t: &[u8], x: usize, n: usize, a: Ty, b: Ty) -> bool
-    ensures { λ r. ⌜ r ≡ descFits (lineage (now (t .entry)) x n) (nest (a .word / 64) (a .word / 8 % 8)) (nest (b .word / 64) (b .word / 8 % 8)) ⌝ }
+fn nest_fits(t: &[u8], kin: Kin, a: Ty, b: Ty) -> bool
+    ensures { λ r. ⌜ r ≡ descFits (lineage (now (t .entry)) (kin .at) (kin .count)) (nest (a .word / 64) (a .word / 8 % 8)) (nest (b .word / 64) (b .word / 8 % 8)) ⌝ }
 {
     if a.word / 8 % 8 == b.word / 8 % 8 {
-        return base_fits(t, x, n, a.word / 64, b.word / 64);
+        return base_fits(t, kin, a.word / 64, b.word / 64);
     }
     if b.word / 8 % 8 < a.word / 8 % 8 {
         return b.word / 64 == 0;
@@ -245,15 +249,15 @@ fn nest_fits(t: &[u8], x: usize, n: usize, a: Ty, b: Ty) -> bool
     false
 }
 
-fn fits_class(t: &[u8], x: usize, n: usize, a: Ty, c: u32) -> bool
-    ensures { λ r. ⌜ r ≡ fitsRef (lineage (now (t .entry)) x n) (cls c) (typeOf (a .word)) ⌝ }
+fn fits_class(t: &[u8], kin: Kin, a: Ty, c: u32) -> bool
+    ensures { λ r. ⌜ r ≡ fitsRef (lineage (now (t .entry)) (kin .at) (kin .count)) (cls c) (typeOf (a .word)) ⌝ }
 {
     let k = a.word % 8;
     if k == Ty::NULL {
         return true;
     }
     if k == Ty::CLASS {
-        return is_below(t, x, n, a.word / 64, c);
+        return is_below(t, kin, a.word / 64, c);
     }
     if k == Ty::ARRAY {
         return c == 0;
@@ -261,22 +265,22 @@ fn fits_class(t: &[u8], x: usize, n: usize, a: Ty, c: u32) -> bool
     false
 }
 
-fn fits_array(t: &[u8], x: usize, n: usize, a: Ty, b: Ty) -> bool
-    ensures { λ r. ⌜ r ≡ fitsRef (lineage (now (t .entry)) x n) (arr (nest (b .word / 64) (b .word / 8 % 8))) (typeOf (a .word)) ⌝ }
+fn fits_array(t: &[u8], kin: Kin, a: Ty, b: Ty) -> bool
+    ensures { λ r. ⌜ r ≡ fitsRef (lineage (now (t .entry)) (kin .at) (kin .count)) (arr (nest (b .word / 64) (b .word / 8 % 8))) (typeOf (a .word)) ⌝ }
 {
     let k = a.word % 8;
     if k == Ty::NULL {
         return true;
     }
     if k == Ty::ARRAY {
-        return nest_fits(t, x, n, a, b);
+        return nest_fits(t, kin, a, b);
     }
     false
 }
 
 // Whether a may stand where b is asked.
-pub fn assignable(t: &[u8], x: usize, n: usize, a: Ty, b: Ty) -> bool
-    ensures { λ r. ⌜ r ≡ fits (lineage (now (t .entry)) x n) (typeOf (a .word)) (typeOf (b .word)) ⌝ }
+pub fn assignable(t: &[u8], kin: Kin, a: Ty, b: Ty) -> bool
+    ensures { λ r. ⌜ r ≡ fits (lineage (now (t .entry)) (kin .at) (kin .count)) (typeOf (a .word)) (typeOf (b .word)) ⌝ }
 {
     let k = b.word % 8;
     if k == Ty::INT {
@@ -286,10 +290,10 @@ pub fn assignable(t: &[u8], x: usize, n: usize, a: Ty, b: Ty) -> bool
         return a.is_null();
     }
     if k == Ty::CLASS {
-        return fits_class(t, x, n, a, b.word / 64);
+        return fits_class(t, kin, a, b.word / 64);
     }
     if k == Ty::ARRAY {
-        return fits_array(t, x, n, a, b);
+        return fits_array(t, kin, a, b);
     }
     if k == Ty::TOP {
         return true;

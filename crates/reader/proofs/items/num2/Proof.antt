@@ -12,7 +12,6 @@ u2-at-requires : tie.Need-u2-at-requires
 u2-at-requires c κs = search needs
 
 add-t8 : tie.Need-add-t8
-unfolding num2At
 add-t8 c = omega (arith, c .before .before .fits-in .ensures .1 (c .before .if1 .taken))
 
 returns : tie.Need-returns

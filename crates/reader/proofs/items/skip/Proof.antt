@@ -10,7 +10,6 @@ fits-in-requires : tie.Need-fits-in-requires
 fits-in-requires c κs = search needs
 
 add-t7 : tie.Need-add-t7
-unfolding skipAt
 add-t7 c = omega (arith, c .before .fits-in .ensures .1 (c .if1 .taken))
 
 returns : tie.Need-returns

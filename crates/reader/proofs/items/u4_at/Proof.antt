@@ -16,7 +16,6 @@ fits-in-requires : tie.Need-fits-in-requires
 fits-in-requires c κs = search needs
 
 add-u2-at : tie.Need-add-u2-at
-unfolding u4At
 add-u2-at c = omega (arith, c .before .fits-in .ensures .1 (c .if1 .taken))
 
 u2-at-requires-2 : tie.Need-u2-at-requires-2

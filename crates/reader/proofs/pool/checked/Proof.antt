@@ -17,7 +17,10 @@ cast-t10 : tie.Need-cast-t10
 cast-t10 c = search needs
 
 returns : tie.Need-returns
-returns c = checked-bad (c .before .before .before .before .before .before .args .s .now) (c .before .before .before .before .before .before .args .tags .now) _ _ (c .before .before .before .first-fault .ensures) _ _ _ refl (c .before .before .if1 .taken) (c .before .entry-fault .ensures) (c .word .ensures)
+returns c =
+    let b3 = c .before .before .before in
+    let b6 = b3 .before .before .before in
+    checked-bad (b6 .args .s .now) (b6 .args .tags .now) _ _ (b3 .first-fault .ensures) _ _ _ refl (c .before .before .if1 .taken) (c .before .entry-fault .ensures) (c .word .ensures)
 
 returns-2 : tie.Need-returns-2
 returns-2 c = checked-ok (c .before .before .before .before .args .s .now) (c .before .before .before .before .args .tags .now) _ _ (c .before .first-fault .ensures) _ refl (c .if1 .left)

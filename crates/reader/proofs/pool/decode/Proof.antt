@@ -53,15 +53,26 @@ returns-4 c = (rw (← c .before .before .before .before .before .before .byte .
 
 returns-5 : tie.Need-returns-5
 unfolding constantAt
-returns-5 c = (rw (← c .before .before .before .before .before .before .before .byte .ensures .0, ← c .before .before .before .before .before .before .u2-at .ensures .0, ← c .before .before .u2-at2 .ensures .0) (search picks depth 10), tt)
+returns-5 c =
+    let b6 = c .before .before .before .before .before .before in
+    let b7 = b6 .before in
+    (rw (← b7 .byte .ensures .0, ← b6 .u2-at .ensures .0, ← c .before .before .u2-at2 .ensures .0) (search picks depth 10), tt)
 
 returns-6 : tie.Need-returns-6
 unfolding constantAt
-returns-6 c = (rw (← c .before .before .before .before .before .before .before .before .byte .ensures .0, ← c .before .before .before .before .before .before .before .u2-at .ensures .0, ← c .before .before .before .u2-at2 .ensures .0) (search picks depth 10), tt)
+returns-6 c =
+    let b3 = c .before .before .before in
+    let b7 = b3 .before .before .before .before in
+    let b8 = b7 .before in
+    (rw (← b8 .byte .ensures .0, ← b7 .u2-at .ensures .0, ← b3 .u2-at2 .ensures .0) (search picks depth 10), tt)
 
 returns-7 : tie.Need-returns-7
 unfolding constantAt
-returns-7 c = (rw (← c .before .before .before .before .before .before .before .before .byte .ensures .0, ← c .before .before .before .before .before .before .before .u2-at .ensures .0, ← c .before .before .before .u2-at2 .ensures .0) (search picks depth 10), tt)
+returns-7 c =
+    let b3 = c .before .before .before in
+    let b7 = b3 .before .before .before .before in
+    let b8 = b7 .before in
+    (rw (← b8 .byte .ensures .0, ← b7 .u2-at .ensures .0, ← b3 .u2-at2 .ensures .0) (search picks depth 10), tt)
 
 pub decode-spec : {M : Type 1} → statement M
 decode-spec =

@@ -27,7 +27,11 @@ same-length : tie.Need-same-length Inv-loop μ-loop
 same-length c = search needs
 
 returns : tie.Need-returns Inv-loop μ-loop
-returns c = many-stop (entryAt (c .before .before .before .before .before .before .before .args .s .now)) _ _ _ _ _ (c .before .before .before .before .loop .inv .3) (c .before .before .entry-at .result) _ (c .before .before .before .loop-test .taken) (c .before .before .entry-at .ensures) _ (c .if1 .taken)
+returns c =
+    let b3 = c .before .before .before in
+    let b4 = b3 .before in
+    let b7 = b4 .before .before .before in
+    many-stop (entryAt (b7 .args .s .now)) _ _ _ _ _ (b4 .loop .inv .3) (c .before .before .entry-at .result) _ (b3 .loop-test .taken) (c .before .before .entry-at .ensures) _ (c .if1 .taken)
 
 cast-put-word : tie.Need-cast-put-word Inv-loop μ-loop
 cast-put-word c = omega arith
@@ -42,7 +46,13 @@ loop-less : tie.Need-loop-less Inv-loop μ-loop
 loop-less c = omega arith
 
 loop-again : tie.Need-loop-again Inv-loop μ-loop
-loop-again c = (omega arith, rw (c .before .before .put-word .ensures, length-put) (c .before .before .before .before .before .before .before .before .loop .inv .1), entry-val (c .before .before .before .before .before .before .before .before .before .before .before .args .s .now) _ (c .before .before .before .before .before .before .entry-at .result) (c .before .before .before .before .before .before .entry-at .ensures) (c .before .before .before .before .if1 .left) .1, put-next (c .before .before .before .before .before .before .before .before .before .before .before .args .s .now) _ _ _ (c .before .before .before .before .before .before .before .before .loop .t) _ _ (c .before .before .before .before .before .before .entry-at .result) (c .before .before .before .before .before .before .before .before .loop .inv .3) (c .before .before .before .before .before .before .before .loop-test .taken) (omega arith) (omega arith) (c .before .before .before .before .before .before .entry-at .ensures) (c .before .before .before .before .if1 .left) (c .before .before .put-word .ensures))
+loop-again c =
+    let b4 = c .before .before .before .before in
+    let b6 = b4 .before .before in
+    let b7 = b6 .before in
+    let b8 = b7 .before in
+    let b11 = b8 .before .before .before in
+    (omega arith, rw (c .before .before .put-word .ensures, length-put) (b8 .loop .inv .1), entry-val (b11 .args .s .now) _ (b6 .entry-at .result) (b6 .entry-at .ensures) (b4 .if1 .left) .1, put-next (b11 .args .s .now) _ _ _ (b8 .loop .t) _ _ (b6 .entry-at .result) (b8 .loop .inv .3) (b7 .loop-test .taken) (omega arith) (omega arith) (b6 .entry-at .ensures) (b4 .if1 .left) (c .before .before .put-word .ensures))
 
 same-length-2 : tie.Need-same-length-2 Inv-loop μ-loop
 same-length-2 c = search needs

@@ -32,7 +32,10 @@ name-fault-requires : tie.Need-name-fault-requires
 name-fault-requires c κs = search needs
 
 returns-4 : tie.Need-returns-4
-returns-4 c = fault-as (c .before .before .before .before .before .before .before .args .s .now) _ _ _ (c .before .before .before .before .entry-of .result) _ (c .before .before .before .before .entry-of .ensures .0) (c .before .before .e .given .1) (c .name-fault .ensures)
+returns-4 c =
+    let b4 = c .before .before .before .before in
+    let b7 = b4 .before .before .before in
+    fault-as (b7 .args .s .now) _ _ _ (b4 .entry-of .result) _ (b4 .entry-of .ensures .0) (c .before .before .e .given .1) (c .name-fault .ensures)
 
 enum-known-e-2 : tie.Need-enum-known-e-2
 enum-known-e-2 c = search needs
@@ -41,7 +44,10 @@ member-fault-requires : tie.Need-member-fault-requires
 member-fault-requires c κs = search needs
 
 returns-5 : tie.Need-returns-5
-returns-5 c = fault-as (c .before .before .before .before .before .before .before .args .s .now) _ _ _ (c .before .before .before .before .entry-of .result) _ (c .before .before .before .before .entry-of .ensures .0) (c .before .before .e2 .given .1) (c .member-fault .ensures)
+returns-5 c =
+    let b4 = c .before .before .before .before in
+    let b7 = b4 .before .before .before in
+    fault-as (b7 .args .s .now) _ _ _ (b4 .entry-of .result) _ (b4 .entry-of .ensures .0) (c .before .before .e2 .given .1) (c .member-fault .ensures)
 
 enum-known-e-3 : tie.Need-enum-known-e-3
 enum-known-e-3 c = search needs
@@ -50,7 +56,10 @@ member-fault-requires-2 : tie.Need-member-fault-requires-2
 member-fault-requires-2 c κs = search needs
 
 returns-6 : tie.Need-returns-6
-returns-6 c = fault-as (c .before .before .before .before .before .before .before .args .s .now) _ _ _ (c .before .before .before .before .entry-of .result) _ (c .before .before .before .before .entry-of .ensures .0) (c .before .before .e3 .given .1) (c .member-fault2 .ensures)
+returns-6 c =
+    let b4 = c .before .before .before .before in
+    let b7 = b4 .before .before .before in
+    fault-as (b7 .args .s .now) _ _ _ (b4 .entry-of .result) _ (b4 .entry-of .ensures .0) (c .before .before .e3 .given .1) (c .member-fault2 .ensures)
 
 enum-known-e-4 : tie.Need-enum-known-e-4
 enum-known-e-4 c = search needs
@@ -59,7 +68,10 @@ texts-fault-requires : tie.Need-texts-fault-requires
 texts-fault-requires c κs = search needs
 
 returns-7 : tie.Need-returns-7
-returns-7 c = fault-as (c .before .before .before .before .before .before .before .args .s .now) _ _ _ (c .before .before .before .before .entry-of .result) _ (c .before .before .before .before .entry-of .ensures .0) (c .before .before .e4 .given .1) (c .texts-fault .ensures)
+returns-7 c =
+    let b4 = c .before .before .before .before in
+    let b7 = b4 .before .before .before in
+    fault-as (b7 .args .s .now) _ _ _ (b4 .entry-of .result) _ (b4 .entry-of .ensures .0) (c .before .before .e4 .given .1) (c .texts-fault .ensures)
 
 pub entry-fault-spec : {M : Type 1} → statement M
 entry-fault-spec =

@@ -14,13 +14,20 @@ returns : tie.Need-returns
 returns c = array-no _ _ ((no-utf8 (c .before .before .before .before .args .s .now) (c .before .entry-of .result) _ (c .before .entry-of .ensures .0) (c .match .keys2)))
 
 returns-2 : tie.Need-returns-2
-returns-2 c = array-empty _ _ (c .before .before .before .before .before .before .before .args .s .now) _ _ (text-is (c .before .before .before .before .before .before .before .args .s .now) (c .before .before .before .before .entry-of .result) _ (c .before .before .before .before .entry-of .ensures .0) _ _ (c .before .before .a .given .1)) (c .if1 .taken)
+returns-2 c =
+    let b4 = c .before .before .before .before in
+    let b7 = b4 .before .before .before in
+    array-empty _ _ (b7 .args .s .now) _ _ (text-is (b7 .args .s .now) (b4 .entry-of .result) _ (b4 .entry-of .ensures .0) _ _ (c .before .before .a .given .1)) (c .if1 .taken)
 
 byte-requires : tie.Need-byte-requires
 byte-requires c κs = search needs
 
 returns-3 : tie.Need-returns-3
-returns-3 c = array-byte _ _ (c .before .before .before .before .before .before .before .before .args .s .now) _ _ (text-is (c .before .before .before .before .before .before .before .before .args .s .now) (c .before .before .before .before .before .entry-of .result) _ (c .before .before .before .before .before .entry-of .ensures .0) _ _ (c .before .before .before .a .given .1)) _ (c .before .if1 .left) (c .byte .ensures .0)
+returns-3 c =
+    let b3 = c .before .before .before in
+    let b5 = b3 .before .before in
+    let b8 = b5 .before .before .before in
+    array-byte _ _ (b8 .args .s .now) _ _ (text-is (b8 .args .s .now) (b5 .entry-of .result) _ (b5 .entry-of .ensures .0) _ _ (b3 .a .given .1)) _ (c .before .if1 .left) (c .byte .ensures .0)
 
 pub is-array-name-spec : {M : Type 1} → statement M
 is-array-name-spec =

@@ -32,10 +32,18 @@ class-type-requires : tie.Need-class-type-requires
 class-type-requires c κs = search needs
 
 returns-2 : tie.Need-returns-2
-returns-2 c = name-none _ _ (c .before .before .before .before .before .before .before .before .before .args .s .now) _ _ (text-is (c .before .before .before .before .before .before .before .before .before .args .s .now) (c .before .before .before .before .before .before .entry-of .result) _ (c .before .before .before .before .before .before .entry-of .ensures .0) _ _ (c .before .before .before .before .a .given .1)) (c .before .class-type .result) (c .before .class-type .ensures) (sym (a-utf8 (c .before .before .before .before .before .before .before .before .before .args .s .now) (c .before .before .before .before .before .before .entry-of .result) _ (c .before .before .before .before .before .before .entry-of .ensures .0) _ _ (c .before .before .before .before .a .given .1))) (c .if1 .taken)
+returns-2 c =
+    let b4 = c .before .before .before .before in
+    let b6 = b4 .before .before in
+    let b9 = b6 .before .before .before in
+    name-none _ _ (b9 .args .s .now) _ _ (text-is (b9 .args .s .now) (b6 .entry-of .result) _ (b6 .entry-of .ensures .0) _ _ (b4 .a .given .1)) (c .before .class-type .result) (c .before .class-type .ensures) (sym (a-utf8 (b9 .args .s .now) (b6 .entry-of .result) _ (b6 .entry-of .ensures .0) _ _ (b4 .a .given .1))) (c .if1 .taken)
 
 returns-3 : tie.Need-returns-3
-returns-3 c = name-some _ _ (c .before .before .before .before .before .before .before .before .before .args .s .now) _ _ (text-is (c .before .before .before .before .before .before .before .before .before .args .s .now) (c .before .before .before .before .before .before .entry-of .result) _ (c .before .before .before .before .before .before .entry-of .ensures .0) _ _ (c .before .before .before .before .a .given .1)) (c .before .class-type .result) (c .before .class-type .ensures) (sym (a-utf8 (c .before .before .before .before .before .before .before .before .before .args .s .now) (c .before .before .before .before .before .before .entry-of .result) _ (c .before .before .before .before .before .before .entry-of .ensures .0) _ _ (c .before .before .before .before .a .given .1))) (c .if1 .left)
+returns-3 c =
+    let b4 = c .before .before .before .before in
+    let b6 = b4 .before .before in
+    let b9 = b6 .before .before .before in
+    name-some _ _ (b9 .args .s .now) _ _ (text-is (b9 .args .s .now) (b6 .entry-of .result) _ (b6 .entry-of .ensures .0) _ _ (b4 .a .given .1)) (c .before .class-type .result) (c .before .class-type .ensures) (sym (a-utf8 (b9 .args .s .now) (b6 .entry-of .result) _ (b6 .entry-of .ensures .0) _ _ (b4 .a .given .1))) (c .if1 .left)
 
 pub name-fault-spec : {M : Type 1} → statement M
 name-fault-spec =

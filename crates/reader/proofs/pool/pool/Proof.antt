@@ -24,8 +24,10 @@ unfolding poolAt
 returns-3 c = (search reads depth 12, never)
 
 all-tags-requires : tie.Need-all-tags-requires
-unfolding poolAt
-all-tags-requires c κs = (omega arith, u2-val _ _ (c .before .before .before .before .before .before .before .u2 .result) (c .before .before .before .before .before .before .before .u2 .ensures) (c .before .before .before .before .before .if1 .left) .2, omega arith, omega arith)
+all-tags-requires c κs =
+    let b5 = c .before .before .before .before .before in
+    let b7 = b5 .before .before in
+    (omega arith, u2-val _ _ (b7 .u2 .result) (b7 .u2 .ensures) (b5 .if1 .left) .2, omega arith, omega arith)
 
 same-length : tie.Need-same-length
 same-length c = search needs
@@ -54,14 +56,42 @@ same-length-2 c = search needs
 
 returns-5 : tie.Need-returns-5
 unfolding poolAt
-returns-5 c = (t-ok _ _ _ (c .before .before .before .before .before .before .before .before .before .before .before .before .before .before .before .before .before .before .u2 .result) (c .before .before .before .before .before .before .before .before .before .before .before .before .before .before .before .before .before .before .u2 .ensures) (c .before .before .before .before .before .before .before .before .before .before .before .before .before .before .before .before .if1 .left) (if-ne _ _ _ _ _ (c .before .before .before .before .before .before .before .before .before .before .before .before .before .before .if2 .left) (if-ge _ _ _ _ _ (c .before .before .before .before .before .before .before .before .before .before .before .before .if3 .left) (as-ok _ _ _ (c .before .before .before .before .before .before .before .before .before .before .all-tags .result) _ (c .before .before .before .before .before .before .before .before .before .before .all-tags .ensures) (c .before .before .before .before .before .before .if4 .left) (table-bad (c .before .before .before .before .before .before .before .before .before .before .before .before .before .before .before .before .before .before .before .before .before .args .s .now) (c .before .before .before .before .before .before .before .before .before .before .all-tags .last .1 .1 .1 .0) (c .before .before .before .before .before .before .before .before .before .before .before .before .before .before .before .before .before .before .u2 .result .val) _ (omega arith) (c .before .before .checked .result) (c .before .before .checked .ensures) _ (c .if5 .taken))))), no-value _ (c .if5 .taken))
+returns-5 c =
+    let b6 = c .before .before .before .before .before .before in
+    let b10 = b6 .before .before .before .before in
+    let b12 = b10 .before .before in
+    let b14 = b12 .before .before in
+    let b16 = b14 .before .before in
+    let b18 = b16 .before .before in
+    let b21 = b18 .before .before .before in (
+      t-ok _ _ _ (b18 .u2 .result) (b18 .u2 .ensures) (b16 .if1 .left)
+          (if-ne _ _ _ _ _ (b14 .if2 .left)
+          (if-ge _ _ _ _ _ (b12 .if3 .left)
+          (as-ok _ _ _ (b10 .all-tags .result) _ (b10 .all-tags .ensures) (b6 .if4 .left)
+          (table-bad (b21 .args .s .now) (b10 .all-tags .last .1 .1 .1 .0) (b18 .u2 .result .val) _ (omega arith) (c .before .before .checked .result) (c .before .before .checked .ensures) _ (c .if5 .taken))))),
+      no-value _ (c .if5 .taken),
+    )
 
 same-length-3 : tie.Need-same-length-3
 same-length-3 c = search needs
 
 returns-6 : tie.Need-returns-6
 unfolding poolAt
-returns-6 c = (t-ok _ _ _ (c .before .before .before .before .before .before .before .before .before .before .before .before .before .before .before .before .before .before .u2 .result) (c .before .before .before .before .before .before .before .before .before .before .before .before .before .before .before .before .before .before .u2 .ensures) (c .before .before .before .before .before .before .before .before .before .before .before .before .before .before .before .before .if1 .left) (if-ne _ _ _ _ _ (c .before .before .before .before .before .before .before .before .before .before .before .before .before .before .if2 .left) (if-ge _ _ _ _ _ (c .before .before .before .before .before .before .before .before .before .before .before .before .if3 .left) (as-ok _ _ _ (c .before .before .before .before .before .before .before .before .before .before .all-tags .result) _ (c .before .before .before .before .before .before .before .before .before .before .all-tags .ensures) (c .before .before .before .before .before .before .if4 .left) (table-ok (c .before .before .before .before .before .before .before .before .before .before .before .before .before .before .before .before .before .before .before .before .before .args .s .now) (c .before .before .before .before .before .before .before .before .before .before .all-tags .last .1 .1 .1 .0) (c .before .before .before .before .before .before .before .before .before .before .before .before .before .before .before .before .before .before .u2 .result .val) _ (omega arith) (c .before .before .checked .result) (c .before .before .checked .ensures) (c .if5 .left))))), λ z. omega arith)
+returns-6 c =
+    let b6 = c .before .before .before .before .before .before in
+    let b10 = b6 .before .before .before .before in
+    let b12 = b10 .before .before in
+    let b14 = b12 .before .before in
+    let b16 = b14 .before .before in
+    let b18 = b16 .before .before in
+    let b21 = b18 .before .before .before in (
+      t-ok _ _ _ (b18 .u2 .result) (b18 .u2 .ensures) (b16 .if1 .left)
+          (if-ne _ _ _ _ _ (b14 .if2 .left)
+          (if-ge _ _ _ _ _ (b12 .if3 .left)
+          (as-ok _ _ _ (b10 .all-tags .result) _ (b10 .all-tags .ensures) (b6 .if4 .left)
+          (table-ok (b21 .args .s .now) (b10 .all-tags .last .1 .1 .1 .0) (b18 .u2 .result .val) _ (omega arith) (c .before .before .checked .result) (c .before .before .checked .ensures) (c .if5 .left))))),
+      λ z. omega arith,
+    )
 
 pub pool-spec : {M : Type 1} → statement M
 pool-spec =

@@ -28,7 +28,6 @@ unfolding utf8At
 returns-3 c = search reads depth 14
 
 text-ok-requires : tie.Need-text-ok-requires
-unfolding utf8At
 text-ok-requires c κs = omega (arith, skip-val _ _ _ _ _ (c .before .before .before .before .skip .result) (c .before .before .before .before .skip .ensures) (c .before .before .if2 .left))
 
 returns-4 : tie.Need-returns-4

@@ -21,11 +21,15 @@ enum-told c = search needs
 
 returns-2 : tie.Need-returns-2
 unfolding utf8IndexAt
-returns-2 c = let z = sym (no-utf8 (c .before .before .before .before .before .before .before .args .s .now) (c .before .entry-of .result) _ (c .before .entry-of .ensures .0) (c .match .keys2)) in search reads depth 12
+returns-2 c =
+    let z = sym (no-utf8 (c .before .before .before .before .before .before .before .args .s .now) (c .before .entry-of .result) _ (c .before .entry-of .ensures .0) (c .match .keys2)) in
+    search reads depth 12
 
 returns-3 : tie.Need-returns-3
 unfolding utf8IndexAt
-returns-3 c = let z = sym (a-utf8 (c .before .before .before .before .before .before .before .before .args .s .now) (c .before .before .entry-of .result) _ (c .before .before .entry-of .ensures .0) _ _ (c .enum-told .given .1)) in search reads depth 12
+returns-3 c =
+    let z = sym (a-utf8 (c .before .before .before .before .before .before .before .before .args .s .now) (c .before .before .entry-of .result) _ (c .before .before .entry-of .ensures .0) _ _ (c .enum-told .given .1)) in
+    search reads depth 12
 
 pub utf8-index-spec : {M : Type 1} → statement M
 utf8-index-spec =

@@ -8,10 +8,11 @@ use Rattle.verifier.proofs.types.is_below.Statement.{statement}
 use Rattle.verifier.proofs.types.is_below.Tie as tie
 
 abbrev Inv-loop : tie.InvT-loop
-Inv-loop t x n c d at₀ left₀ at left = (left ≤ n) × (upTo (lineage t x n) left at d ≡ below (lineage t x n) c d)
+Inv-loop t kin c d at₀ left₀ at left =
+    (left ≤ kin .count) × (upTo (lineage t (kin .at) (kin .count)) left at d ≡ below (lineage t (kin .at) (kin .count)) c d)
 
 abbrev μ-loop : tie.MeasureT-loop
-μ-loop t x n c d at₀ left₀ at left = left
+μ-loop t kin c d at₀ left₀ at left = left
 
 loop-holds : tie.Need-loop-holds Inv-loop μ-loop
 loop-holds c = (omega arith, below-start _ _ _ _ _)
