@@ -13,8 +13,10 @@ use Rattle.machine.specs.Computing.{running}
 use Rattle.machine.specs.Laws.{run-answer}
 use Rattle.examples.specs.Assemble.{noFrames, frames, static, constructor, noArguments, objectName}
 
--- arguments, budget, lent cells; the nine numbers of the answer
+-- class and method, arguments, budget, lent cells; the nine numbers of the answer
 pub record Run : Type 0 where
+  pub class : ℕ
+  pub method : ℕ
   pub arguments : List ℕ
   pub budget : ℕ
   pub cells : List ℕ
@@ -26,11 +28,11 @@ pub record Case : Type 0 where
   pub verdict : List ℕ
   pub runs : List Run
 
--- a run of the only method of the only class, whatever stands in the scratch, slots and tags that are lent
+-- a run, whatever stands in the scratch, slots and tags that are lent
 abbrev pub Runs : List ℕ → List Run → Type 0
 Runs s [] = Unit {0}
 Runs s (r ∷ rs) =
-    ((t : Lent) → sizesOk t (r .budget) ≡ true → t .heap ≡ r .cells → answerNumbers (runOf s t 0 0 (r .arguments) (r .budget) .answer) ≡ r .answer)
+    ((t : Lent) → sizesOk t (r .budget) ≡ true → t .heap ≡ r .cells → answerNumbers (runOf s t (r .class) (r .method) (r .arguments) (r .budget) .answer) ≡ r .answer)
     × Runs s rs
 
 abbrev pub Holds : List Case → Type 0
@@ -38,14 +40,14 @@ Holds [] = Unit {0}
 Holds (c ∷ cs) = (numbers (verdictOf (c .bytes)) ≡ c .verdict) × Runs (c .bytes) (c .runs) × Holds cs
 
 -- ---- how the table is written
-abbrev accepted : List ℕ
+abbrev pub accepted : List ℕ
 accepted = 0 ∷ unnamed ∷ unnamed ∷ 0 ∷ []
 
 abbrev refusedAt : ℕ → ℕ → List ℕ
 refusedAt n place = n ∷ 0 ∷ 0 ∷ place ∷ []
 
 abbrev run : List ℕ → ℕ → List ℕ → Run
-run args budget answer = record { arguments = args; budget = budget; cells = []; answer = answer }
+run args budget answer = record { class = 0; method = 0; arguments = args; budget = budget; cells = []; answer = answer }
 
 abbrev returns : ℕ → ℕ → List ℕ
 returns value count = 0 ∷ 1 ∷ value ∷ count ∷ 0 ∷ noVerdict
@@ -53,7 +55,7 @@ returns value count = 0 ∷ 1 ∷ value ∷ count ∷ 0 ∷ noVerdict
 abbrev outOfSteps : ℕ → List ℕ
 outOfSteps count = 0 ∷ 3 ∷ 0 ∷ count ∷ 0 ∷ noVerdict
 
-abbrev case : List ℕ → List ℕ → List Run → Case
+abbrev pub case : List ℕ → List ℕ → List Run → Case
 case s v rs = record { bytes = s; verdict = v; runs = rs }
 
 -- ()I, (I)I, ()Ljava/lang/Object;
@@ -85,11 +87,11 @@ examples =
     ∷ []
 
 -- ---- what is computed: verdicts, and answers at the lent cells
-abbrev Answers : List ℕ → List Run → Type 0
+abbrev pub Answers : List ℕ → List Run → Type 0
 Answers s [] = Unit {0}
-Answers s (r ∷ rs) = (answerNumbers (answerOf s (r .cells) 0 0 (r .arguments) (r .budget)) ≡ r .answer) × Answers s rs
+Answers s (r ∷ rs) = (answerNumbers (answerOf s (r .cells) (r .class) (r .method) (r .arguments) (r .budget)) ≡ r .answer) × Answers s rs
 
-abbrev Computes : List Case → Type 0
+abbrev pub Computes : List Case → Type 0
 Computes [] = Unit {0}
 Computes (c ∷ cs) = (numbers (verdictOf (c .bytes)) ≡ c .verdict) × Answers (c .bytes) (c .runs) × Computes cs
 
@@ -97,12 +99,12 @@ runs : (s : List ℕ) (rs : List Run) → Answers s rs → Runs s rs
 runs s [] a = tt
 runs s (r ∷ rs) a = (one, runs s rs (a .1))
   where
-    one : (t : Lent) → sizesOk t (r .budget) ≡ true → t .heap ≡ r .cells → answerNumbers (runOf s t 0 0 (r .arguments) (r .budget) .answer) ≡ r .answer
+    one : (t : Lent) → sizesOk t (r .budget) ≡ true → t .heap ≡ r .cells → answerNumbers (runOf s t (r .class) (r .method) (r .arguments) (r .budget) .answer) ≡ r .answer
     one t h e =
-        ap answerNumbers (run-answer s t 0 0 (r .arguments) (r .budget) h)
-        ∙ (ap (λ (cs : List ℕ). answerNumbers (answerOf s cs 0 0 (r .arguments) (r .budget))) e ∙ a .0)
+        ap answerNumbers (run-answer s t (r .class) (r .method) (r .arguments) (r .budget) h)
+        ∙ (ap (λ (cs : List ℕ). answerNumbers (answerOf s cs (r .class) (r .method) (r .arguments) (r .budget))) e ∙ a .0)
 
-holds : (cs : List Case) → Computes cs → Holds cs
+pub holds : (cs : List Case) → Computes cs → Holds cs
 holds [] p = tt
 holds (c ∷ cs) p = (p .0, runs (c .bytes) (c .runs) (p .1), holds cs (p .2))
 

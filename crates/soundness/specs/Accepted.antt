@@ -131,3 +131,12 @@ accepted s v P e =
       linked = r .linked;
       judged = λ i j h. judging P (method P (firstClass + i) j) (all-pass (λ M. verdict (shapeClaims P M)) P (c .1) i j h) (all-pass (λ M. walked P M (frames P M)) P t i j h);
     }
+
+-- what is accepted was read
+pub readable : (s : List ℕ) → verdictOf s ≡ pass → (P : Program) × (readShaped s ≡ program P)
+unfolding verdictOf typeRead
+readable s v = go (readShaped s) refl v
+  where
+    go : (r : Read) → readShaped s ≡ r → typeRead r ≡ pass → (P : Program) × (readShaped s ≡ program P)
+    go (refused r) e v = absurd (fail-pass r v)
+    go (program P) e v = (P, e)

@@ -254,7 +254,7 @@ module _ {P : Program} (L : Link P) {E : List Desc} (n : Now P E) where
           → Good P E (popAny rest λ v r′. only (resultRoom P (here n) (found P m) r′)
           (receiver P (here n) (cls (m .named)) v λ b. withClass (typeAt (n .H) b) λ c. chosen (lookup P methodSigs (found P m .sig) c) λ d j. enter P (here n) d j 0 (v ∷ args) r′))
       go args _ x (pcons vnulc (pnil {vs = r} ts)) =
-          only-ok (resultRoom P (here n) (found P m) r) (results-room (found P m) r _ ts (a .room)) (fault-ok L n nullPointer (omega arith) a (n .locals))
+          only-ok (resultRoom P (here n) (found P m) r) (results-room (found P m) r _ ts (a .room)) (fault-ok L n nullPointer (omega arith) (omega arith) a (n .locals))
       go args _ x (pcons (vini {a = b} e q s) (pnil {vs = r} ts)) =
           let w : Block P (n .Ψ) (n .H) b e ready = n .heap .found b e ready q in
           only-ok (resultRoom P (here n) (found P m) r) (results-room (found P m) r _ ts (a .room))

@@ -8,7 +8,7 @@ use lib.ListN.{length}
 use lib.Dec.{T, eqb, eqb→eq, eqb-refl}
 use Rattle.reader.specs.Names.{Text, init}
 use Rattle.reader.specs.Descriptors.{Ref, cls, arr, Desc, dint, dref, methodTypeAt}
-use Rattle.reader.specs.BuiltIns.{firstClass}
+use Rattle.reader.specs.BuiltIns.{throwable, firstClass}
 use Rattle.reader.specs.Program.{Program, methodTypeOr, class, method, classCount, isConstructor, upTo, below, methodSigs, lookup, layout}
 use Rattle.reader.specs.Link.{agrees}
 use Rattle.verifier.specs.Types.{refFits, descFits}
@@ -23,6 +23,7 @@ pub record Link (P : Program) : Type 0 where
   pub ends : (c : ℕ) → T (below P c 0)
   pub bare : length (class P 0 .fields) ≡ 0
   pub plain : (c : ℕ) → c < firstClass → layout P c ≡ []
+  pub thrown : (c : ℕ) → throwable ≤ c → c < firstClass → T (below P c throwable)
   pub number : Text → ℕ
   -- a built-in class has only `<init>`
   pub built : (c j : ℕ) → c < firstClass → j < length (class P c .methods) → method P c j .sig .name ≡ init

@@ -6,9 +6,9 @@ use mathlib.Core.List.{List, [], _∷_}
 use lib.ListN.{length}
 use lib.Dec.{T}
 use Rattle.kit.specs.Claims.{pass}
-use Rattle.reader.specs.BuiltIns.{firstClass}
+use Rattle.reader.specs.BuiltIns.{throwable, firstClass}
 use Rattle.reader.specs.Descriptors.{Desc}
-use Rattle.reader.specs.Program.{Program, method}
+use Rattle.reader.specs.Program.{Program, method, below}
 use Rattle.reader.specs.Link.{program}
 use Rattle.verifier.specs.Verify.{readShaped, verdictOf}
 use Rattle.machine.specs.Heap.{Heap, Val, valueFits}
@@ -22,10 +22,10 @@ resultsFit P H [] (v ∷ vs) = false
 resultsFit P H (d ∷ ds) [] = false
 resultsFit P H (d ∷ ds) (v ∷ vs) = cond (valueFits P H d v) (resultsFit P H ds vs) false
 
--- a run may end so
+-- a run may end so; what is uncaught is a Throwable
 abbrev pub EndOk : Program → List Desc → Heap → End → Type 0
 EndOk P ds H (returned vs) = T (resultsFit P H ds vs)
-EndOk P ds H (uncaught c) = Unit {0}
+EndOk P ds H (uncaught c) = T (below P c throwable)
 EndOk P ds H outOfSteps = Unit {0}
 EndOk P ds H heapFull = Unit {0}
 EndOk P ds H depthFull = Unit {0}

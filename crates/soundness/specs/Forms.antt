@@ -111,7 +111,7 @@ module _ {P : Program} (L : Link P) {E : List Desc} (n : Now P E) where
   pub idiv-ok : (f : Division) {vs : List Val} → Sees n (idiv f) → Popped (R n) vs (int ∷ int ∷ []) (drop 2 (n .s)) → Holds (idiv f) vs
   unfolding execute rule
   idiv-ok f a (pcons (vint {a = b}) (pcons vint (pnil ts))) =
-      cond-ok (eqb b 0) (λ _. fault-ok L n arithmetic (omega arith) a (n .locals)) (λ _. on L n a tt (typed (n .flag) (n .me) (n .locals) (acons vint ts)))
+      cond-ok (eqb b 0) (λ _. fault-ok L n arithmetic (omega arith) (omega arith) a (n .locals)) (λ _. on L n a tt (typed (n .flag) (n .me) (n .locals) (acons vint ts)))
 
   -- ---- locals
   pub iload-ok : (j : ℕ) {vs : List Val} → Sees n (iload j) → All2 (R n) vs (n .s) → Holds (iload j) vs
@@ -186,7 +186,7 @@ module _ {P : Program} (L : Link P) {E : List Desc} (n : Now P E) where
   checkcast-ok u a (pcons {v = v} x (pnil ts)) =
       only-ok (valueFits P (n .H) objectDesc v) (ready-val L n x) (cond-ok (valueFits P (n .H) (dref u) v)
       (λ b. on L n a tt (typed (n .flag) (n .me) (n .locals) (acons (toVT (meth n) (deep n) (n .σ) (passes (n .heap) (fromVT (dref (cls object)) x) (dref u) b)) ts)))
-      (λ b. fault-ok L n classCast (omega arith) a (n .locals)))
+      (λ b. fault-ok L n classCast (omega arith) (omega arith) a (n .locals)))
 
   pub instanceof-ok : (u : Ref) {vs : List Val} → Sees n (instanceof u) → Popped (R n) vs (objectTy ∷ []) (drop 1 (n .s)) → Holds (instanceof u) vs
   unfolding execute rule

@@ -8,6 +8,7 @@ use native.Mathlib.Omega.{arith}
 use lib.ListN.{length}
 use lib.Dec.{T, leb, eqb→eq, le→leb}
 use Rattle.kit.specs.Claims.{AllT}
+use Rattle.reader.specs.BuiltIns.{throwable}
 use Rattle.reader.specs.Descriptors.{Ref, cls, Desc}
 use Rattle.reader.specs.Members.{Handler}
 use Rattle.reader.specs.Program.{Program, Method, method, below}
@@ -213,10 +214,10 @@ module _ {P : Program} {E : List Desc} {Ψ : HTys} (c : ℕ) where
   lands (ccons {c = k} {m} {vs = vs} fs w g cs) = landing-ok k m vs fs g (w .catch) cs (lands cs)
 
   -- the object is there, or is made
-  pub landed-ok : (obtain : (ℕ → Heap → Result) → Result)
+  pub landed-ok : T (below P c throwable) → (obtain : (ℕ → Heap → Result) → Result)
       → ((k : ℕ → Heap → Result) → ((Ψ′ : HTys) (H′ : Heap) (a : ℕ) → HOK P Ψ′ H′ → ((d : ℕ) → Keeps d Ψ Ψ′) → Ψ′ a ≡ some (hty (cls c) ready) → Good P E (k (suc a) H′)) → Good P E (obtain k))
       → {l : Landing} → Lands P Ψ E c l → Good P E (landed P c obtain l)
   unfolding landed
-  landed-ok obtain f lost = f _ (λ Ψ′ H′ a hk kp p. ends tt)
-  landed-ok obtain f (held {k} {m} {ks = ks} fs r g t cs) =
+  landed-ok b obtain f lost = f _ (λ Ψ′ H′ a hk kp p. ends b)
+  landed-ok b obtain f (held {k} {m} {ks = ks} fs r g t cs) =
       only-ok (leb 1 (body (method P k m) .maxStack)) r (f _ (λ Ψ′ H′ a hk kp p. goes (inv Ψ′ fs hk g (t Ψ′ kp a p) (calls-keep cs (kp (length ks))))))

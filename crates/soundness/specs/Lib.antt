@@ -20,3 +20,4 @@ pub mod Objects
 pub mod Calls
 pub mod Exec
 pub mod Theorem
+pub mod Consequences

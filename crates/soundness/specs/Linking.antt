@@ -14,7 +14,7 @@ use Rattle.reader.specs.Verdicts.{each}
 use Rattle.reader.specs.Names.{Text, init}
 use Rattle.reader.specs.Members.{Member, none}
 use Rattle.reader.specs.Bundle.{ClassFile, zero′}
-use Rattle.reader.specs.BuiltIns.{BuiltIn, builtIns, firstClass, object}
+use Rattle.reader.specs.BuiltIns.{BuiltIn, builtIns, firstClass, object, throwable}
 use Rattle.reader.specs.Program.{Program, Class, Method, noClass, noMethod, class, method, classCount, isConstructor, numberIn, classNames, methodOf, classOf, classesFrom, builtInsFrom, programOf, upTo, below, methodSigs, lookup, layoutTo, layout}
 use Rattle.reader.specs.Link.{chainClaims, allKnown, agrees, fieldClaims, methodClaims, memberClaims}
 use Rattle.soundness.specs.Base.{AllT-left, AllT-right, second-of, right-of}
@@ -38,6 +38,21 @@ each-claims f k (a ∷ l) h (suc i) d b = let e : k + suc i ≡ suc k + i = omeg
 
 all-claims : {A K : Type 0} (f : ℕ → A → List (Claim K)) (l : List A) → AllT (each f 0 l) → (i : ℕ) (d : A) → i < length l → AllT (f i (getD l i d))
 all-claims f l h i d b = let e : 0 + i ≡ i = omega arith in rw e at (each-claims f 0 l h i d b)
+
+-- for each built-in class
+each-built : (Q : ℕ → Type 0) → Q 0 → Q 1 → Q 2 → Q 3 → Q 4 → Q 5 → Q 6 → Q 7 → Q 8 → Q 9 → Q 10 → (c : ℕ) → c < firstClass → Q c
+each-built Q q0 q1 q2 q3 q4 q5 q6 q7 q8 q9 q10 zero h = q0
+each-built Q q0 q1 q2 q3 q4 q5 q6 q7 q8 q9 q10 (suc zero) h = q1
+each-built Q q0 q1 q2 q3 q4 q5 q6 q7 q8 q9 q10 (suc (suc zero)) h = q2
+each-built Q q0 q1 q2 q3 q4 q5 q6 q7 q8 q9 q10 (suc (suc (suc zero))) h = q3
+each-built Q q0 q1 q2 q3 q4 q5 q6 q7 q8 q9 q10 (suc (suc (suc (suc zero)))) h = q4
+each-built Q q0 q1 q2 q3 q4 q5 q6 q7 q8 q9 q10 (suc (suc (suc (suc (suc zero))))) h = q5
+each-built Q q0 q1 q2 q3 q4 q5 q6 q7 q8 q9 q10 (suc (suc (suc (suc (suc (suc zero)))))) h = q6
+each-built Q q0 q1 q2 q3 q4 q5 q6 q7 q8 q9 q10 (suc (suc (suc (suc (suc (suc (suc zero))))))) h = q7
+each-built Q q0 q1 q2 q3 q4 q5 q6 q7 q8 q9 q10 (suc (suc (suc (suc (suc (suc (suc (suc zero)))))))) h = q8
+each-built Q q0 q1 q2 q3 q4 q5 q6 q7 q8 q9 q10 (suc (suc (suc (suc (suc (suc (suc (suc (suc zero))))))))) h = q9
+each-built Q q0 q1 q2 q3 q4 q5 q6 q7 q8 q9 q10 (suc (suc (suc (suc (suc (suc (suc (suc (suc (suc zero)))))))))) h = q10
+each-built Q q0 q1 q2 q3 q4 q5 q6 q7 q8 q9 q10 (suc (suc (suc (suc (suc (suc (suc (suc (suc (suc (suc c))))))))))) h = absurd (omega arith)
 
 -- a built-in class has only `<init>`
 built-init : (k : ℕ) (bs : List BuiltIn) (c j : ℕ) → c < length bs → j < length (getD (builtInsFrom k bs) c noClass .methods) → getD (getD (builtInsFrom k bs) c noClass .methods) j noMethod .sig .name ≡ init
@@ -134,43 +149,20 @@ module _ (fs : List ClassFile) where
       go (no b) = let k : j < length (noClass .methods) = rw (no-class c (omega arith)) at l in absurd (omega arith)
       go (yes b) = from (c - firstClass) (omega arith) (omega arith)
 
-  -- chains of the built-in classes, and of numbers that no class has
+  -- chains of the built-in classes end at Object
   built-ends : (c : ℕ) → c < firstClass → T (below (programOf fs) c object)
   unfolding below programOf builtInsFrom builtIns upTo
-  built-ends c h = go c h
-    where
-      go : (c : ℕ) → c < firstClass → T (upTo (programOf fs) (classCount (programOf fs)) c object)
-      go zero h = tt
-      go (suc zero) h = tt
-      go (suc (suc zero)) h = tt
-      go (suc (suc (suc zero))) h = tt
-      go (suc (suc (suc (suc zero)))) h = tt
-      go (suc (suc (suc (suc (suc zero))))) h = tt
-      go (suc (suc (suc (suc (suc (suc zero)))))) h = tt
-      go (suc (suc (suc (suc (suc (suc (suc zero))))))) h = tt
-      go (suc (suc (suc (suc (suc (suc (suc (suc zero)))))))) h = tt
-      go (suc (suc (suc (suc (suc (suc (suc (suc (suc zero))))))))) h = tt
-      go (suc (suc (suc (suc (suc (suc (suc (suc (suc (suc zero)))))))))) h = tt
-      go (suc (suc (suc (suc (suc (suc (suc (suc (suc (suc (suc c))))))))))) h = absurd (omega arith)
+  built-ends = each-built (λ c. T (below (programOf fs) c object)) tt tt tt tt tt tt tt tt tt tt tt
+
+  -- all but Object are Throwables
+  built-thrown : (c : ℕ) → c < firstClass → throwable ≤ c → T (below (programOf fs) c throwable)
+  unfolding below programOf builtInsFrom builtIns upTo
+  built-thrown = each-built (λ c. throwable ≤ c → T (below (programOf fs) c throwable)) (λ l. absurd (omega arith)) (λ l. tt) (λ l. tt) (λ l. tt) (λ l. tt) (λ l. tt) (λ l. tt) (λ l. tt) (λ l. tt) (λ l. tt) (λ l. tt)
 
   -- none of them has fields
   built-plain : (c : ℕ) → c < firstClass → layout (programOf fs) c ≡ []
   unfolding layout programOf builtInsFrom builtIns layoutTo
-  built-plain c h = go c h
-    where
-      go : (c : ℕ) → c < firstClass → layoutTo (programOf fs) (classCount (programOf fs)) c ≡ []
-      go zero h = refl
-      go (suc zero) h = refl
-      go (suc (suc zero)) h = refl
-      go (suc (suc (suc zero))) h = refl
-      go (suc (suc (suc (suc zero)))) h = refl
-      go (suc (suc (suc (suc (suc zero))))) h = refl
-      go (suc (suc (suc (suc (suc (suc zero)))))) h = refl
-      go (suc (suc (suc (suc (suc (suc (suc zero))))))) h = refl
-      go (suc (suc (suc (suc (suc (suc (suc (suc zero)))))))) h = refl
-      go (suc (suc (suc (suc (suc (suc (suc (suc (suc zero))))))))) h = refl
-      go (suc (suc (suc (suc (suc (suc (suc (suc (suc (suc zero)))))))))) h = refl
-      go (suc (suc (suc (suc (suc (suc (suc (suc (suc (suc (suc c))))))))))) h = absurd (omega arith)
+  built-plain = each-built (λ c. layout (programOf fs) c ≡ []) refl refl refl refl refl refl refl refl refl refl refl
 
   ended : Linked fs → (c : ℕ) → T (below (programOf fs) c object)
   unfolding chainClaims
@@ -199,6 +191,7 @@ module _ (fs : List ClassFile) where
     ends = ended l;
     bare = bare;
     plain = built-plain;
+    thrown = λ c l h. built-thrown c h l;
     number = num;
     built = λ c j h k. rw (built-class c h) (built-init 0 builtIns c j (omega (arith, eleven, built-length 0 builtIns)) (rw (built-class c h) at k));
     owned = λ c j h k. ap (λ (m : Method). m .owner) (mine c j h k .made);

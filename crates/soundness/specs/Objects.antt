@@ -112,12 +112,12 @@ module _ {P : Program} (L : Link P) {E : List Desc} (n : Now P E) where
       cond-ok (valueFits P (n .H) D′ w)
       (λ t. on′ L n (store (n .H) (elementAt b j) (toCell w)) a tt
       (written (n .heap) b (arr D′) ready j (toCell w) p l (cell-ok (passes (n .heap) (fromVT (dref (cls object)) v) D′ t))) (keeps-self (deep n) (n .Ψ)) (typed (n .flag) (n .me) (n .locals) ts))
-      (λ t. fault-ok L n arrayStore (omega arith) a (n .locals))))
+      (λ t. fault-ok L n arrayStore (omega arith) (omega arith) a (n .locals))))
 
   pub newarray-ok : (D : Desc) → T (knownDesc (classCount P) D) → {vs : List Val} → Sees n (newarray D) → Popped (R n) vs (int ∷ []) (drop 1 (n .s)) → Holds (newarray D) vs
   unfolding execute rule makeArray
   newarray-ok D h a (pcons (vint {a = k}) (pnil {vs = r} ts)) =
-      cond-ok (negative k) (λ _. fault-ok L n negativeSize (omega arith) a (n .locals))
+      cond-ok (negative k) (λ _. fault-ok L n negativeSize (omega arith) (omega arith) a (n .locals))
       (λ _. create-ok L n (arr D) k 1 ready refl (array-again (classCount P) (L .few) D h) tt _ (λ hk.
       on′ L n (allocate (n .H) (arr D) k 1) a tt hk (keeps-more (deep n) (n .Ψ) (n .H .used) (hty (arr D) ready) (free L n))
       (go (keepSlots (keeps-more (suc (deep n)) (n .Ψ) (n .H .used) (hty (arr D) ready) (free L n)) (typed (n .flag) (n .me) (n .locals) ts)))))
@@ -182,5 +182,5 @@ module _ {P : Program} (L : Link P) {E : List Desc} (n : Now P E) where
   athrow-ok a (pcons x (pnil ts)) = receiver-ok L n (cls throwable) a (n .locals) x _ go
     where
       go : (b : ℕ) (e : Ref) → n .Ψ b ≡ some (hty e ready) → T (refFits P e (cls throwable)) → Block P (n .Ψ) (n .H) b e ready → Good P E (throw P (here n) (suc b) (cell (n .H) b))
-      go b (cls c) p s w = rw (class-cell (n .H) b c (w .type)) (throw-ok L n b c a (n .locals) p)
+      go b (cls c) p s w = rw (class-cell (n .H) b c (w .type)) (throw-ok L n b c a (n .locals) p s)
       go b (arr D) p s w = absurd s

@@ -241,66 +241,27 @@ module _ (P : Program) (L : Link P) where
       go ih true = x (resolve P (class P (M .owner) .pool)) (op - a) (getD (codeOf M) (o + 1) 0) (getD (codeOf M) (o + 2) 0) o (resolve-ok (class P (M .owner) .pool))
       go ih false = ih
 
+  -- a row that names nothing; one that names what its two operand bytes say
+  plain : (pool : ℕ → Resolved) (n a b o : ℕ) → ((i : ℕ) → ResolvedOk P (pool i)) → Unit {0}
+  plain pool n a b o h = tt
+
+  named : {Q : Resolved → Type 0} → ((q : Resolved) → ResolvedOk P q → Q q) → (pool : ℕ → Resolved) (n a b o : ℕ) → ((i : ℕ) → ResolvedOk P (pool i)) → Q (pool (a * 256 + b))
+  named k pool n a b o h = k (pool (a * 256 + b)) (h (a * 256 + b))
+
   -- in the table's order
   rows-ok : RowsOk rows
   unfolding rows
   rows-ok =
-      (rcons (λ pool n a b o h. tt)
-      (rcons (λ pool n a b o h. tt)
-      (rcons (λ pool n a b o h. tt)
-      (rcons (λ pool n a b o h. tt)
-      (rcons (λ pool n a b o h. tt)
-      (rcons (λ pool n a b o h. number-then iconst (λ v. tt) (pool a) (h a))
-      (rcons (λ pool n a b o h. tt)
-      (rcons (λ pool n a b o h. tt)
-      (rcons (λ pool n a b o h. tt)
-      (rcons (λ pool n a b o h. tt)
-      (rcons (λ pool n a b o h. tt)
-      (rcons (λ pool n a b o h. tt)
-      (rcons (λ pool n a b o h. tt)
-      (rcons (λ pool n a b o h. tt)
-      (rcons (λ pool n a b o h. tt)
-      (rcons (λ pool n a b o h. tt)
-      (rcons (λ pool n a b o h. tt)
-      (rcons (λ pool n a b o h. tt)
-      (rcons (λ pool n a b o h. tt)
-      (rcons (λ pool n a b o h. tt)
-      (rcons (λ pool n a b o h. tt)
-      (rcons (λ pool n a b o h. tt)
-      (rcons (λ pool n a b o h. tt)
-      (rcons (λ pool n a b o h. tt)
-      (rcons (λ pool n a b o h. tt)
-      (rcons (λ pool n a b o h. tt)
-      (rcons (λ pool n a b o h. tt)
-      (rcons (λ pool n a b o h. tt)
-      (rcons (λ pool n a b o h. tt)
-      (rcons (λ pool n a b o h. tt)
-      (rcons (λ pool n a b o h. tt)
-      (rcons (λ pool n a b o h. tt)
-      (rcons (λ pool n a b o h. tt)
-      (rcons (λ pool n a b o h. tt)
-      (rcons (λ pool n a b o h. tt)
-      (rcons (λ pool n a b o h. tt)
-      (rcons (λ pool n a b o h. tt)
-      (rcons (λ pool n a b o h. tt)
-      (rcons (λ pool n a b o h. tt)
-      (rcons (λ pool n a b o h. tt)
-      (rcons (λ pool n a b o h. tt)
-      (rcons (λ pool n a b o h. tt)
-      (rcons (λ pool n a b o h. field-then getfield (λ f x. x) (pool (a * 256 + b)) (h (a * 256 + b)))
-      (rcons (λ pool n a b o h. field-then putfield (λ f x. x) (pool (a * 256 + b)) (h (a * 256 + b)))
-      (rcons (λ pool n a b o h. method-then (isVirtualCall P) invokevirtual (λ m x t. (x, t)) (pool (a * 256 + b)) (h (a * 256 + b)))
-      (rcons (λ pool n a b o h. method-then (isInitCall P) invokespecial (λ m x t. (x, t)) (pool (a * 256 + b)) (h (a * 256 + b)))
-      (rcons (λ pool n a b o h. method-then (isStaticCall P) invokestatic (λ m x t. (x, t)) (pool (a * 256 + b)) (h (a * 256 + b)))
-      (rcons (λ pool n a b o h. type-then newOf (λ r x. new-ok r) (pool (a * 256 + b)) (h (a * 256 + b)))
-      (rcons (λ pool n a b o h. ints-ok (eqb a 10))
-      (rcons (λ pool n a b o h. type-then arrayOf array-ok (pool (a * 256 + b)) (h (a * 256 + b)))
-      (rcons (λ pool n a b o h. tt)
-      (rcons (λ pool n a b o h. tt)
-      (rcons (λ pool n a b o h. type-then checkcast (λ r x. tt) (pool (a * 256 + b)) (h (a * 256 + b)))
-      (rcons (λ pool n a b o h. type-then instanceof (λ r x. tt) (pool (a * 256 + b)) (h (a * 256 + b)))
-      (rcons (λ pool n a b o h. tt)
-      rnil)))))))))))))))))))))))))))))))))))))))))))))))))))))))
+      (rcons plain (rcons plain (rcons plain (rcons plain (rcons plain (rcons (λ pool n a b o h. number-then iconst (λ v. tt) (pool a) (h a)) (rcons plain
+      (rcons plain (rcons plain (rcons plain (rcons plain (rcons plain (rcons plain (rcons plain (rcons plain (rcons plain (rcons plain (rcons plain
+      (rcons plain (rcons plain (rcons plain (rcons plain (rcons plain (rcons plain (rcons plain (rcons plain (rcons plain (rcons plain (rcons plain
+      (rcons plain (rcons plain (rcons plain (rcons plain (rcons plain (rcons plain (rcons plain (rcons plain (rcons plain (rcons plain (rcons plain
+      (rcons plain (rcons plain (rcons (named (field-then getfield (λ f x. x))) (rcons (named (field-then putfield (λ f x. x)))
+      (rcons (named (method-then (isVirtualCall P) invokevirtual (λ m x t. (x, t))))
+      (rcons (named (method-then (isInitCall P) invokespecial (λ m x t. (x, t))))
+      (rcons (named (method-then (isStaticCall P) invokestatic (λ m x t. (x, t)))) (rcons (named (type-then newOf (λ r x. new-ok r)))
+      (rcons (λ pool n a b o h. ints-ok (eqb a 10)) (rcons (named (type-then arrayOf array-ok)) (rcons plain (rcons plain
+      (rcons (named (type-then checkcast (λ r x. tt))) (rcons (named (type-then instanceof (λ r x. tt))) (rcons plain rnil)))))))))))))))))))))))))))))))))))))))))))))))))))))))
 
   pub instruction-ok : (M : Method) (o : ℕ) → InstrOk P (instruction P M o)
   unfolding instruction rowOf

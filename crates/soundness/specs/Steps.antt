@@ -1,5 +1,5 @@
 -- A machine at an instruction whose claims hold: how the parts that steps are made of keep the invariant.
-use Prim.Native.Nat.{ℕ, suc, _+_, _<_}
+use Prim.Native.Nat.{ℕ, suc, _+_, _<_, _≤_}
 use mathlib.Core.Path.{_≡_, refl, sym, ap, _∙_}
 use mathlib.Core.Bool.{Bool, true, false, cond, Bool·beq}
 use mathlib.Core.List.{List, [], _∷_, _++_, reverseAux}
@@ -8,9 +8,9 @@ use native.Mathlib.Omega.{arith}
 use lib.ListN.{length}
 use lib.Dec.{T, eqb, leb, ltb, eqb-refl, ltb→lt}
 use Rattle.kit.specs.Claims.{AllT}
-use Rattle.reader.specs.BuiltIns.{firstClass, object, nullPointer, arrayIndex}
+use Rattle.reader.specs.BuiltIns.{throwable, firstClass, object, nullPointer, arrayIndex}
 use Rattle.reader.specs.Descriptors.{Ref, cls, arr, Desc, dint, dref, dimensions}
-use Rattle.reader.specs.Program.{Program, Method, method}
+use Rattle.reader.specs.Program.{Program, Method, method, below}
 use Rattle.verifier.specs.Instruction.{Instr, falls}
 use Rattle.verifier.specs.Opcodes.{body, codeOf, sizeAt}
 use Rattle.verifier.specs.Lines.{Line}
@@ -137,16 +137,16 @@ module _ {P : Program} (L : Link P) {E : List Desc} (n : Now P E) where
   pub kept-catches : {i : Instr} {Ψ′ : HTys} → Sees n i → All2 (R n) (n .ls) (ruleAt n i .caught) → Keeps (suc (deep n)) (n .Ψ) Ψ′ → Catches P Ψ′ (deep n) (meth n) (n .fs) (n .o) (n .q) (n .ls)
   kept-catches a x k = catches L (n .checked) (n .o) (n .g) (keepFlag k (n .flag)) (n .me) (all2-map (λ v t z. keepVT k z) x) (a .catch)
 
-  pub throw-ok : {i : Instr} (a c : ℕ) → Sees n i → All2 (R n) (n .ls) (ruleAt n i .caught) → n .Ψ a ≡ some (hty (cls c) ready) → Good P E (throw P (here n) (suc a) c)
+  pub throw-ok : {i : Instr} (a c : ℕ) → Sees n i → All2 (R n) (n .ls) (ruleAt n i .caught) → n .Ψ a ≡ some (hty (cls c) ready) → T (below P c throwable) → Good P E (throw P (here n) (suc a) c)
   unfolding throw
-  throw-ok a c e x p =
-      landed-ok {Ψ = n .Ψ} c (λ k. k (suc a) (n .H)) (λ k f. f (n .Ψ) (n .H) a (n .heap) (λ d. keeps-self d (n .Ψ)) p)
+  throw-ok a c e x p b =
+      landed-ok {Ψ = n .Ψ} c b (λ k. k (suc a) (n .H)) (λ k f. f (n .Ψ) (n .H) a (n .heap) (λ d. keeps-self d (n .Ψ)) p)
       (landing-ok c (n .c) (n .m) [] (n .fs) (n .checked) (λ Ψ′ k. kept-catches e x k) (n .calls) (lands c (n .calls)))
 
-  pub fault-ok : {i : Instr} (c : ℕ) → c < firstClass → Sees n i → All2 (R n) (n .ls) (ruleAt n i .caught) → Good P E (fault P (here n) c)
+  pub fault-ok : {i : Instr} (c : ℕ) → throwable ≤ c → c < firstClass → Sees n i → All2 (R n) (n .ls) (ruleAt n i .caught) → Good P E (fault P (here n) c)
   unfolding fault
-  fault-ok c l e x =
-      landed-ok {Ψ = n .Ψ} c (create (n .H) (cls c) 0 1)
+  fault-ok c b l e x =
+      landed-ok {Ψ = n .Ψ} c (L .thrown c b l) (create (n .H) (cls c) 0 1)
       (λ k f. create-ok (cls c) 0 1 ready refl (class-again c) (sym (ap length (L .plain c l))) k
       (λ hk. f (upd (n .Ψ) (n .H .used) (hty (cls c) ready)) (allocate (n .H) (cls c) 0 1) (n .H .used) hk (λ d. keeps-more d (n .Ψ) (n .H .used) (hty (cls c) ready) free) (upd-same (n .Ψ) (n .H .used) (hty (cls c) ready))))
       (landing-ok c (n .c) (n .m) [] (n .fs) (n .checked) (λ Ψ′ k. kept-catches e x k) (n .calls) (lands c (n .calls)))
@@ -158,7 +158,7 @@ module _ {P : Program} (L : Link P) {E : List Desc} (n : Now P E) where
   pub receiver-ok : {i : Instr} (u : Ref) {v : Val} → Sees n i → All2 (R n) (n .ls) (ruleAt n i .caught) → R n v (ini u) → (k : ℕ → Result)
       → ((a : ℕ) (e : Ref) → n .Ψ a ≡ some (hty e ready) → T (refFits P e u) → Block P (n .Ψ) (n .H) a e ready → Good P E (k a)) → Good P E (receiver P (here n) u v k)
   unfolding receiver
-  receiver-ok u e x vnulc k f = fault-ok nullPointer (omega arith) e x
+  receiver-ok u e x vnulc k f = fault-ok nullPointer (omega arith) (omega arith) e x
   receiver-ok u e x (vini {a} t p s) k f =
       let b : Block P (n .Ψ) (n .H) a t ready = n .heap .found a t ready p in
       only-ok (readyAt (n .H) a) (rw (b .ready) tt) (only-ok (valueFits P (n .H) (dref u) (ref (suc a))) (fits-ok (n .heap) (vdref {a = a} t p s)) (f a t p s b))
@@ -170,9 +170,9 @@ module _ {P : Program} (L : Link P) {E : List Desc} (n : Now P E) where
   unfolding refFits receiver
   array-ok top e x y v k f = absurd y
   array-ok int e x y v k f = absurd y
-  array-ok null e x y vnull k f = fault-ok nullPointer (omega arith) e x
+  array-ok null e x y vnull k f = fault-ok nullPointer (omega arith) (omega arith) e x
   array-ok (ini (cls b)) e x y v k f = absurd y
-  array-ok (ini (arr D)) e x y vnulc k f = fault-ok nullPointer (omega arith) e x
+  array-ok (ini (arr D)) e x y vnulc k f = fault-ok nullPointer (omega arith) (omega arith) e x
   array-ok (ini (arr D)) e x y (vini (cls b) p s) k f = absurd s
   array-ok (ini (arr D)) e x y (vini {a} (arr D′) p s) k f =
       let b : Block P (n .Ψ) (n .H) a (arr D′) ready = n .heap .found a (arr D′) ready p in
@@ -194,7 +194,7 @@ module _ {P : Program} (L : Link P) {E : List Desc} (n : Now P E) where
   unfolding element
   element-ok ints j t e x y z v k f = array-ok t e x y v _ (λ a D D′ q p s b.
       let kind : isDint D′ ≡ ints = same-kind D′ D s ∙ z D q in
-      only-ok (Bool·beq ints (isDint D′)) (rw kind (beq-refl ints)) (cond-ok (ltb j (countAt (n .H) a)) (λ l. f a D D′ q p s kind (ltb→lt j (countAt (n .H) a) l) b) (λ l. fault-ok arrayIndex (omega arith) e x)))
+      only-ok (Bool·beq ints (isDint D′)) (rw kind (beq-refl ints)) (cond-ok (ltb j (countAt (n .H) a)) (λ l. f a D D′ q p s kind (ltb→lt j (countAt (n .H) a) l) b) (λ l. fault-ok arrayIndex (omega arith) (omega arith) e x)))
     where
       beq-refl : (b : Bool) → T (Bool·beq b b)
       beq-refl true = tt

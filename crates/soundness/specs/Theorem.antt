@@ -8,15 +8,17 @@ use native.Mathlib.Omega.{arith}
 use lib.ListN.{length}
 use lib.Dec.{T, ltb, ltb→lt}
 use borrow.Author.Tests.{eq-eqb}
+use Rattle.kit.specs.Claims.{pass}
 use Rattle.reader.specs.BuiltIns.{firstClass}
 use Rattle.reader.specs.Descriptors.{Desc, dint, dref}
 use Rattle.reader.specs.Program.{Program, class, method, classCount, isConstructor}
 use Rattle.reader.specs.Link.{program}
 use Rattle.verifier.specs.Frames.{Frame}
-use Rattle.verifier.specs.Verify.{readShaped}
+use Rattle.verifier.specs.Verify.{readShaped, verdictOf}
 use Rattle.machine.specs.Heap.{Heap, heap, num}
-use Rattle.machine.specs.Machine.{Machine, heapOf, Result}
-use Rattle.machine.specs.Run.{Ran, turn, run, allInts, isEntry, started, ending, entered, answered, answerOf}
+use Rattle.machine.specs.Machine.{Machine, heapOf, Result, next, ended, stopped}
+use Rattle.machine.specs.Step.{step}
+use Rattle.machine.specs.Run.{Lent, sizesOk, runOf, Ran, turn, run, allInts, isEntry, started, ending, entered, answered, answerOf}
 use Rattle.soundness.specs.Base.{is-true, is-false, first-of, second-of, All2, anil, acons}
 use Rattle.soundness.specs.Demand3.{EndOk, Sound}
 use Rattle.soundness.specs.Accepted.{Accepted, Judged, accepted}
@@ -44,7 +46,7 @@ run-ok L acc E zero n K i = tt
 run-ok L acc E (suc left) n K i = turn-ok (step-ok L acc E i) n (heapOf K) _ (λ K′ i′. run-ok L acc E left (suc n) K′ i′)
 
 -- ---- what is accepted has passed
-passing : {s : List ℕ} {P : Program} → Accepted s P → Accepts P
+pub passing : {s : List ℕ} {P : Program} → Accepted s P → Accepts P
 passing {P = P} a = record { passed = λ c m h l. go (c - firstClass) c (omega arith) m h l }
   where
     go : (i c : ℕ) → c ≡ firstClass + i → (m : ℕ) → firstClass ≤ c → m < length (class P c .methods) → (fs : List Frame) × Checked P (method P c m) fs
@@ -107,3 +109,24 @@ sound s v P e i j h args n cells budget =
       answer s P e i j h args n cells budget,
       run-ok L acc (method P (firstClass + i) j .results) budget 0 (started P cells i j args) (start-ok L acc i j (entry P i j h) args cells n),
     )
+
+-- the same of a whole call of run, with all that it is lent
+pub sound-run : (s : List ℕ) → verdictOf s ≡ pass → (P : Program) → readShaped s ≡ program P → (i j : ℕ) → T (isEntry P i j)
+    → (args : List ℕ) → length args ≡ length (method P (firstClass + i) j .params) → (t : Lent) (budget : ℕ) → T (sizesOk t budget)
+    → (R : Ran) × (runOf s t i j args budget .answer ≡ ending R) × EndOk P (method P (firstClass + i) j .results) (R .heap) (R .end)
+unfolding runOf
+sound-run s v P e i j h args n t budget b =
+    let x = sound s v P e i j h args n (t .heap) budget in
+    (x .0, rw (is-true (sizesOk t budget) b) (x .1), x .2)
+
+-- a run never makes more steps than its budget
+turn-count : (r : Result) (n left : ℕ) (H : Heap) (k : Machine → Ran) → ((K : Machine) → k K .count ≤ suc n + left) → turn r n H k .count ≤ n + suc left
+unfolding turn
+turn-count (next K) n left H k f = let i = f K in omega arith
+turn-count (ended e H′) n left H k f = omega arith
+turn-count (stopped e) n left H k f = omega arith
+
+pub run-count : (P : Program) (left n : ℕ) (K : Machine) → run P left n K .count ≤ n + left
+unfolding run
+run-count P zero n K = omega arith
+run-count P (suc left) n K = turn-count (step P K) n left (heapOf K) _ (λ K′. run-count P left (suc n) K′)

@@ -2,8 +2,8 @@
 -- has the same subclasses, so the same types fit. Assumes nothing.
 use Prim.Native.Nat.{ℕ, zero, suc, _+_, _-_, _/_, _<_, _≤_}
 use mathlib.Core.Path.{_≡_, refl, sym, ap, _∙_}
-use mathlib.Core.Bool.{Bool, true, false, cond}
-use mathlib.Core.List.{List, [], _∷_, _++_}
+use mathlib.Core.Bool.{true, cond}
+use mathlib.Core.List.{List, [], _∷_}
 use mathlib.Core.Logic.{_⊎_, inl, inr}
 use native.Mathlib.Omega.{arith}
 use native.Mathlib.Nat.{not-suc-le-zero}
@@ -13,7 +13,6 @@ use lib.ListN.{length, getD, List·getD-eq-default}
 use borrow.Author.Tests.{eq-eqb, ne-eqb}
 use Rattle.kit.specs.Pick.{side}
 use Rattle.kit.specs.Words.{word, word-out}
-use Rattle.kit.specs.Claims.{Claim, claim}
 use Rattle.reader.specs.Descriptors.{Ref, cls, arr, Desc, dint, dref}
 use Rattle.reader.specs.Program.{Program, Class, class, noClass, classCount, upTo, below}
 use Rattle.verifier.specs.Types.{Ty, top, int, null, ini, uninit, refFits, descFits, fits}

@@ -13,7 +13,9 @@ pub mod Rule
 pub mod TypeLaws
 pub mod Slots
 pub mod SlotLaws
+pub mod FrameRows
 pub mod Walk
+pub mod FrameLaws
 pub mod Verify
 pub mod Computing
 pub mod Laws

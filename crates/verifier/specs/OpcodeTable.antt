@@ -1,6 +1,6 @@
 -- The opcode table as 768 numbers, three an opcode, and that they say what the listed ranges say. Assumes nothing.
 use Prim.Native.Nat.{ℕ, _+_, _*_, _<_, _≤_}
-use mathlib.Core.Path.{_≡_, refl, sym, _∙_}
+use mathlib.Core.Path.{_≡_, refl}
 use mathlib.Core.Bool.{Bool, true, false, cond, _&&_}
 use mathlib.Core.List.{List, [], _∷_}
 use native.Mathlib.Omega.{arith}
@@ -10,7 +10,7 @@ use borrow.Author.Tests.{eqb-true, ltb-true, lt-leb}
 use Rattle.kit.specs.Bools.{both-left, both-right}
 use Rattle.kit.specs.Rows.{every, row}
 use Rattle.verifier.specs.Instruction.{illegal}
-use Rattle.verifier.specs.Opcodes.{Row, Operands, rows, rowIn, rowOf, within, lengthOf, takenOf, leftOf}
+use Rattle.verifier.specs.Opcodes.{Row, Operands, rows, rowIn, rowOf, lengthOf, takenOf, leftOf}
 use Rattle.verifier.specs.Opcodes as opcodes
 
 unfoldable pub table : List ℕ

@@ -1,6 +1,6 @@
 -- Laws of states in words: what reads and stores of words are to the state, in the direction in which the code's returns ask for them.
 -- Assumes nothing.
-use Prim.Native.Nat.{ℕ, zero, suc, _+_, _-_, _*_, _/_, _^_, _<_, _≤_}
+use Prim.Native.Nat.{ℕ, zero, suc, _+_, _-_, _/_, _^_, _<_, _≤_}
 use mathlib.Core.Path.{_≡_, refl, sym, ap, _∙_}
 use mathlib.Core.Bool.{Bool, true, false, cond, not, Bool·beq}
 use mathlib.Core.List.{List, [], _∷_, _++_}
@@ -8,20 +8,19 @@ use mathlib.Core.Logic.{_⊎_, inl, inr}
 use native.Mathlib.Omega.{arith}
 use native.Mathlib.Nat.{not-suc-le-zero}
 use native.Mathlib.Numerals.{add-one, sub-one}
-use lib.Dec.{eqb, ltb, leb}
+use lib.Dec.{eqb, leb}
 use lib.ListN.{length, getD, drop, set, List·getD-eq-default}
 use lib.Seq.{set-out}
 use borrow.Author.Tests.{le-leb, lt-leb, ne-eqb, eq-eqb, not-true, not-false}
-use Rattle.kit.specs.Pick.{side, same}
-use Rattle.kit.specs.Claims.{Claim, claim, Ruling, pass, fail, is, verdict, then, is-zero, is-fail, fails, pos-eqb, verdict-yes, verdict-none, then-pass, verdict-append}
+use Rattle.kit.specs.Pick.{side}
+use Rattle.kit.specs.Claims.{claim, Ruling, is, verdict, then, is-zero, fails, pos-eqb, verdict-yes, verdict-none, then-pass, verdict-append}
 use Rattle.kit.specs.Words.{word, putWord, word-same, word-other}
 use Rattle.reader.specs.Program.{Program}
 use Rattle.verifier.specs.Types.{Key, Ty, top, isUninit, fits}
-use Rattle.verifier.specs.States.{State, state, topOf, operand, slotsFit, stateFits, replaceAll, noCopy}
+use Rattle.verifier.specs.States.{state, topOf, operand, slotsFit, stateFits, replaceAll, noCopy}
 use Rattle.verifier.specs.TypeWords.{typeOf}
-use Rattle.verifier.specs.TypeLaws.{type-top}
 use Rattle.verifier.specs.declared.slots.Held.{Held}
-use Rattle.verifier.specs.Slots.{slot, localsAt, stackAt, held, Placed, Roomy, Outside, Moved, pushed, dropped, stored, swap1, localsSwapped, allSwapped, veil1, veil, Swapped}
+use Rattle.verifier.specs.Slots.{slot, localsAt, stackAt, held, Roomy, Outside, Moved, pushed, dropped, stored, swap1, localsSwapped, allSwapped, veil1, veil, Swapped}
 
 -- ---- one claim
 pub claim-yes : (n : ℕ) (b : Bool) → b ≡ true → is 0 ≡ verdict (claim n b ∷ [])

@@ -9,9 +9,9 @@ use native.Mathlib.Numerals.{sub-one}
 use lib.Dec.{eqb, ltb, leb, eqb·suc-suc, eqb·zero-suc, eqb·suc-zero, leb·zero, leb·suc-zero, leb·suc-suc}
 use borrow.Author.Tests.{eq-eqb, ne-eqb, eqb-true}
 use Rattle.kit.specs.Pick.{picks, side}
-use Rattle.reader.specs.Descriptors.{Ref, cls, arr, Desc, dint, dref}
+use Rattle.reader.specs.Descriptors.{cls, arr, dint, dref}
 use Rattle.reader.specs.Program.{Program, below}
-use Rattle.verifier.specs.Types.{Key, at, self, Ty, top, int, null, ini, uninit, isTop, isInt, isNull, isReference, isArray, isUninit, elementTy, tyOf, refFits, descFits, fits}
+use Rattle.verifier.specs.Types.{at, self, Ty, top, int, null, ini, uninit, isTop, isInt, isNull, isReference, isArray, isUninit, elementTy, tyOf, refFits, descFits, fits}
 use Rattle.verifier.specs.Rule.{keyOf}
 use Rattle.verifier.specs.TypeWords.{intBase, baseOf, nest, typeBy, typeOf, baseFits, nestFits}
 

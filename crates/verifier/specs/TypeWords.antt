@@ -1,10 +1,10 @@
 -- What a packed word stands for: kind + 8 * depth + 64 * number. Every number is read as some type.
 use Prim.Native.Nat.{ℕ, zero, suc, _/_, _%_}
-use mathlib.Core.Bool.{Bool, true, false, cond}
+use mathlib.Core.Bool.{Bool, false, cond}
 use lib.Dec.{eqb, ltb}
-use Rattle.reader.specs.Descriptors.{Ref, cls, arr, Desc, dint, dref}
+use Rattle.reader.specs.Descriptors.{cls, arr, Desc, dint, dref}
 use Rattle.reader.specs.Program.{Program, below}
-use Rattle.verifier.specs.Types.{Key, at, self, Ty, top, int, null, ini, uninit, descFits}
+use Rattle.verifier.specs.Types.{at, self, Ty, top, int, null, ini, uninit, descFits}
 
 -- an array's base: a class by its number, or int by a number that no class has
 abbrev pub intBase : ℕ

@@ -1,0 +1,106 @@
+// Frames in lent words: look-up, and a state that goes to a frame.
+ghost use mathlib.Core.Path.{_≡_};
+ghost use mathlib.Core.Bool.{false};
+ghost use mathlib.Core.List.{[], _∷_};
+ghost use Prim.Native.Nat.{_+_, _≤_, _/_};
+ghost use lib.ListN.{length};
+ghost use Rattle.kit.specs.Claims.{is, verdict};
+ghost use Rattle.verifier.specs.Rule.{keyOf};
+ghost use Rattle.verifier.specs.States.{state};
+ghost use Rattle.verifier.specs.Walk.{frameAt, intoFrame};
+ghost use Rattle.verifier.specs.TypeWords.{typeOf};
+ghost use Rattle.verifier.specs.Ancestry.{lineage};
+ghost use Rattle.verifier.specs.Slots.{held, localsOf, veil, Placed};
+ghost use Rattle.verifier.specs.FrameRows.{rowHeld, framesOf, Laid, standing, Sound};
+use crate::slots::Held;
+use crate::slots::{self};
+use crate::types::Kin;
+use crate::types::Ty;
+
+// Where a method's frames stand: the first row, how many there are, and the method's locals.
+pub struct Rows {
+    pub at: usize,
+    pub count: usize,
+    pub locals: usize,
+}
+
+// The state of a frame that was looked for, if there is one.
+pub struct Standing {
+    pub there: bool,
+    pub held: Held,
+}
+
+// The state in the row at x.
+fn row(t: &[u8], n: usize, x: usize) -> Held
+    requires { ⌜ (n ≤ 32) × (x + 68 ≤ length (now t) / 4) ⌝ }
+    ensures { λ r. ⌜ (r ≡ rowHeld (now (t .entry)) n x) × Sound (now (t .entry)) r ⌝ }
+{
+    let d = kit::word(t, x + 65) % 33;
+    let g = kit::word(t, x + 66) == 1;
+    Held {
+        at: x,
+        locals: n,
+        depth: d as usize,
+        flag: g,
+    }
+}
+
+// The frame at the offset o.
+pub fn find(t: &[u8], f: Rows, o: usize) -> Standing
+    requires { ⌜ Laid (now t) f ⌝ }
+    ensures { λ r. ⌜ (standing (now (t .entry)) r ≡ frameAt (framesOf (now (t .entry)) f) o) × Sound (now (t .entry)) (r .held) ⌝ }
+{
+    let mut x = f.at;
+    let mut left = f.count;
+    while 0 < left {
+        if kit::word(t, x + 64) as usize == o {
+            let h = row(t, f.locals, x);
+            return Standing {
+                there: true,
+                held: h,
+            };
+        }
+        x += 68;
+        left -= 1;
+    }
+    let h = row(t, f.locals, x);
+    Standing {
+        there: false,
+        held: h,
+    }
+}
+
+// A state goes to the frame at o, which must be there and which it must fit.
+pub fn into_frame(t: &[u8], kin: Kin, f: Rows, h: Held, o: usize) -> u32
+    requires { ⌜ Laid (now t) f × Placed (now t) h ⌝ }
+    ensures { λ r. ⌜ is r ≡ verdict (intoFrame (lineage (now (t .entry)) (kin .at) (kin .count)) (held (now (t .entry)) h) (frameAt (framesOf (now (t .entry)) f) o)) ⌝ }
+{
+    let s = find(t, f, o);
+    let g = s.held;
+    if s.there {
+        return slots::fit_states(t, kin, h, g);
+    }
+    17
+}
+
+// What a handler at o gets goes to its frame: the locals with copies of the key's object hidden, and w alone on the stack.
+pub fn into_handler(
+    t: &[u8],
+    kin: Kin,
+    f: Rows,
+    h: Held,
+    o: usize,
+    hide: bool,
+    key: Ty,
+    w: Ty,
+) -> u32
+    requires { ⌜ Laid (now t) f × Placed (now t) h ⌝ }
+    ensures { λ r. ⌜ is r ≡ verdict (intoFrame (lineage (now (t .entry)) (kin .at) (kin .count)) (state false (veil hide (keyOf (typeOf (key .word))) (localsOf (now (t .entry)) h)) (typeOf (w .word) ∷ [])) (frameAt (framesOf (now (t .entry)) f) o)) ⌝ }
+{
+    let s = find(t, f, o);
+    let g = s.held;
+    if s.there {
+        return slots::fit_caught(t, kin, h, g, hide, key, w);
+    }
+    17
+}

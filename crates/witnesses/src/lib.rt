@@ -1,0 +1,1 @@
+// Bundles of the outside, computed to their verdicts and ends: specs/ alone.
