@@ -13,6 +13,9 @@ pub mod Table
 pub mod Faults
 pub mod PoolEnds
 pub mod Members
+pub mod Attributes
+pub mod Signatures
+pub mod Contents
 pub mod Bundle
 pub mod BuiltIns
 pub mod Program

@@ -1,5 +1,6 @@
 // Phases A and B: bytes to a program. The definitions are in specs/.
 pub mod descriptors;
 pub mod items;
+pub mod members;
 pub mod names;
 pub mod pool;

@@ -82,7 +82,7 @@ linked-all fs e =
       members = pass-all _ (then-pass-right (verdict (each (chainClaims (programOf fs)) 0 fs)) _ b);
     }
 
-pub record Read′ (s : List ℕ) (P : Program) : Type 0 where
+record WasRead (s : List ℕ) (P : Program) : Type 0 where
   pub files : List ClassFile
   pub end : ℕ
   pub read : bundleAt s ≡ ok files end
@@ -92,15 +92,15 @@ pub record Read′ (s : List ℕ) (P : Program) : Type 0 where
 no-read : {A : Type 0} (r : Refusal) (P : Program) → refused r ≡ program P → A
 no-read r P e = let z : _≡_ {A = ℕ} 0 1 = cc in absurd (omega arith)
 
-reading : (s : List ℕ) (P : Program) → readBundle s ≡ program P → Read′ s P
+reading : (s : List ℕ) (P : Program) → readBundle s ≡ program P → WasRead s P
 unfolding readBundle readAs linkedAs
 reading s P e = go (bundleAt s) refl e
   where
-    on : (fs : List ClassFile) (end : ℕ) → bundleAt s ≡ ok fs end → (v : Verdict) → linked fs (programOf fs) ≡ v → linkedAs (programOf fs) v ≡ program P → Read′ s P
+    on : (fs : List ClassFile) (end : ℕ) → bundleAt s ≡ ok fs end → (v : Verdict) → linked fs (programOf fs) ≡ v → linkedAs (programOf fs) v ≡ program P → WasRead s P
     on fs end p pass q e = record { files = fs; end = end; read = p; is = (cc); linked = linked-all fs q }
     on fs end p (fail r) q e = no-read r P e
 
-    go : (r : Res (List ClassFile)) → bundleAt s ≡ r → readAs r ≡ program P → Read′ s P
+    go : (r : Res (List ClassFile)) → bundleAt s ≡ r → readAs r ≡ program P → WasRead s P
     go (ok fs end) p e = on fs end p (linked fs (programOf fs)) refl e
     go (bad n q) p e = no-read _ P e
 
@@ -131,12 +131,3 @@ accepted s v P e =
       linked = r .linked;
       judged = λ i j h. judging P (method P (firstClass + i) j) (all-pass (λ M. verdict (shapeClaims P M)) P (c .1) i j h) (all-pass (λ M. walked P M (frames P M)) P t i j h);
     }
-
--- what is accepted was read
-pub readable : (s : List ℕ) → verdictOf s ≡ pass → (P : Program) × (readShaped s ≡ program P)
-unfolding verdictOf typeRead
-readable s v = go (readShaped s) refl v
-  where
-    go : (r : Read) → readShaped s ≡ r → typeRead r ≡ pass → (P : Program) × (readShaped s ≡ program P)
-    go (refused r) e v = absurd (fail-pass r v)
-    go (program P) e v = (P, e)

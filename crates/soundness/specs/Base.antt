@@ -1,23 +1,15 @@
 -- Tests and choosers taken apart, and two lists in step.
 use mathlib.Core.Path.{_≡_, refl, ap}
-use mathlib.Core.Bool.{Bool, true, false, cond}
+use mathlib.Core.Bool.{Bool, true, false, cond, Bool·beq}
 use mathlib.Core.List.{List, [], _∷_, _++_}
 use mathlib.Core.Logic.{_⊎_, inl, inr}
 use Prim.Native.Nat.{ℕ, zero, suc, _<_}
 use native.Mathlib.Omega.{arith}
 use lib.ListN.{length, getD, set, replicate}
-use lib.Dec.{T, eqb, eqb→eq}
+use lib.Dec.{T}
 use Rattle.kit.specs.Claims.{Claim, AllT, all-split}
 
 -- tests
-pub is-true : (b : Bool) → T b → b ≡ true
-is-true true t = refl
-is-true false t = absurd t
-
-pub is-false : (b : Bool) → (T b → ⊥) → b ≡ false
-is-false true f = absurd (f tt)
-is-false false f = refl
-
 pub first-of : (a b : Bool) → T (cond a b false) → T a
 first-of true b t = tt
 first-of false b t = t
@@ -42,8 +34,11 @@ pub right-of : (a b : Bool) → T b → T (cond a true b)
 right-of true b t = tt
 right-of false b t = t
 
-pub nonzero : (c : ℕ) → (c ≡ 0 → ⊥) → eqb c 0 ≡ false
-nonzero c f = is-false (eqb c 0) (λ t. f (eqb→eq c 0 t))
+pub same-truth : (a b : Bool) → T (Bool·beq a b) → a ≡ b
+same-truth true true t = refl
+same-truth true false t = absurd t
+same-truth false true t = absurd t
+same-truth false false t = refl
 
 -- claims
 module _ {K : Type 0} where

@@ -1,38 +1,37 @@
--- Calls and returns keep the invariant.
+-- Calls of methods keep the invariant: the callee starts in the state that it was checked from, the caller waits.
 use Prim.Native.Nat.{ℕ, suc, _+_, _-_, _<_, _≤_}
 use mathlib.Core.Path.{_≡_, refl, ap, _∙_}
 use mathlib.Core.Bool.{Bool, true, false, cond, not}
 use mathlib.Core.List.{List, [], _∷_, _++_, reverse, reverseAux, reverse-reverse, append-nil}
-use mathlib.Core.Logic.{_⊎_, inl, inr}
 use mathlib.Core.Option.{some}
 use native.Mathlib.Omega.{arith}
 use lib.ListN.{length, drop, replicate, length-append}
-use lib.Dec.{T, T-not, eqb, leb, ltb, eqb→eq, leb→le, le→leb, lt→ltb}
+use lib.Dec.{T, T-not, leb, ltb, eqb→eq, leb→le, le→leb}
+use Rattle.kit.specs.Bools.{T-true, T-false}
 use Rattle.reader.specs.Limits.{maxCalls}
 use Rattle.reader.specs.BuiltIns.{firstClass, nullPointer}
-use Rattle.reader.specs.Descriptors.{Ref, cls, arr, Desc, dint, dref}
-use Rattle.reader.specs.Program.{Program, Method, class, method, isConstructor, below, methodSigs, lookup}
-use Rattle.verifier.specs.Instruction.{Instr, MethodRef, ireturn, areturn, return, invokevirtual, invokespecial, invokestatic}
+use Rattle.reader.specs.Descriptors.{Ref, cls, arr, Desc, dref}
+use Rattle.reader.specs.Program.{Program, Method, class, method, isConstructor, methodSigs, lookup}
+use Rattle.verifier.specs.Instruction.{Instr, MethodRef, invokevirtual, invokestatic}
 use Rattle.verifier.specs.Opcodes.{body}
-use Rattle.verifier.specs.Resolve.{found, isStaticCall, isVirtualCall, isInitCall}
-use Rattle.verifier.specs.Types.{Key, at, self, Ty, top, int, null, ini, uninit, tysOf, refFits}
-use Rattle.verifier.specs.States.{State, state, operand, replaceAll, padded, parameterTys, startState}
+use Rattle.verifier.specs.Resolve.{found, isStaticCall, isVirtualCall}
+use Rattle.verifier.specs.Types.{Key, at, Ty, top, ini, tysOf, refFits}
+use Rattle.verifier.specs.States.{State, state, padded, parameterTys, startState}
 use Rattle.verifier.specs.Frames.{Frame}
-use Rattle.verifier.specs.Rule.{rule, keyClass, keyOk, initOk, flagAfter, initialised, returnsInt, returnsRef, returnsVoid, returned, arguments, calling, constructing}
-use Rattle.machine.specs.Heap.{Heap, Val, empty, ref, typeAt, readyAt, markReady, valueFits, paddedLocals}
-use Rattle.machine.specs.Machine.{Call, only, popAny, pushOn, receiver, withClass, resultRoom, enter, giveBack}
-use Rattle.machine.specs.Step.{execute, chosen, callStatic, callVirtual, withUnready, construct, callInit, selfReady, leave, leaveWith}
-use Rattle.soundness.specs.Demand3.{resultsFit}
-use Rattle.soundness.specs.Base.{is-true, is-false, both-of, either-of, All2, anil, acons, all2-map, all2-length, all2-append, all2-replicate}
-use Rattle.soundness.specs.Classes.{Link, parent, below-trans, below-parent, zero-above}
+use Rattle.verifier.specs.Rule.{rule, arguments, calling}
+use Rattle.machine.specs.Heap.{Val, empty, ref, typeAt, readyAt, valueFits, paddedLocals}
+use Rattle.machine.specs.Machine.{only, popAny, receiver, withClass, resultRoom, enter}
+use Rattle.machine.specs.Step.{execute, chosen, callStatic, callVirtual}
+use Rattle.soundness.specs.Base.{All2, anil, acons, all2-map, all2-length, all2-append, all2-replicate}
+use Rattle.soundness.specs.Classes.{Link, zero-above}
 use Rattle.soundness.specs.Lookup.{Chosen, lookup-below, lookup-bundle}
 use Rattle.soundness.specs.Resolution.{MethodOk}
-use Rattle.soundness.specs.Typing.{ready, born, hty, HTys, upd, VD, VT, vtop, vnulc, vini, vraw, vdref, Keeps, Others, keeps-down, keeps-self, keeps-then, toVT, keepVD, keepVT, Peeled, peeled, peel, Popped, pnil, pcons, popped, swapped, hit-made, hit-top, own-others, own-keeps, own-at}
-use Rattle.soundness.specs.Blocks.{Block, HOK, readied, lent, fits-ok}
+use Rattle.soundness.specs.Typing.{ready, hty, HTys, VD, VT, vtop, vnulc, vini, vdref, Keeps, keeps-self, toVT, keepVT, Popped, pnil, pcons}
+use Rattle.soundness.specs.Blocks.{Block, HOK, fits-ok}
 use Rattle.soundness.specs.Walk.{Into, entered}
 use Rattle.soundness.specs.Walk.{Here as At}
-use Rattle.soundness.specs.Inv.{Checked, Done, dnone, dself, FlagOK, fset, fclr, Me, nobody, someone, Slots, typed, Top, Catches, Waits, Calls, cnil, ccons, inv, Good, goes, ends, deep, only-ok, cond-ok, keepFlag, calls-keep, slots-into, catches}
-use Rattle.soundness.specs.Steps.{Now, here, meth, R, Sees, ruleAt, onto, on′, kept-catches, fault-ok, args-ok}
+use Rattle.soundness.specs.Inv.{Checked, dnone, FlagOK, fclr, Me, nobody, Slots, typed, Top, Waits, ccons, inv, Good, goes, deep, only-ok, cond-ok, keepFlag, calls-keep, slots-into}
+use Rattle.soundness.specs.Steps.{Now, here, meth, R, Sees, onto, kept-catches, fault-ok, args-ok}
 use Rattle.soundness.specs.Steps.{deep as depth}
 
 -- every method of the bundle has passed
@@ -54,12 +53,7 @@ entering {P} L {M} {fs} {Ψ} d q σ args gd f me x =
     pad : All2 (VT P M Ψ d σ) (replicate (body M .maxLocals - length args) empty) (replicate (body M .maxLocals - length (parameterTys M)) top)
     pad = rw (all2-length x) (all2-replicate (body M .maxLocals - length (parameterTys M)) empty top vtop)
 
-all-fit : {P : Program} {Ψ : HTys} {H : Heap} → HOK P Ψ H → {vs : List Val} {Ds : List Desc} → All2 (VD P Ψ) vs Ds → T (resultsFit P H Ds vs)
-unfolding resultsFit
-all-fit hk anil = tt
-all-fit {P} {H = H} hk (acons {a = v} {b = D} x xs) = both-of (valueFits P H D v) _ (fits-ok hk x) (all-fit hk xs)
-
-tys-aux : (Ds Es : List Desc) → tysOf (reverseAux Ds Es) ≡ reverseAux (tysOf Ds) (tysOf Es)
+pub tys-aux : (Ds Es : List Desc) → tysOf (reverseAux Ds Es) ≡ reverseAux (tysOf Ds) (tysOf Es)
 tys-aux [] Es = refl
 tys-aux (D ∷ Ds) Es = tys-aux Ds (D ∷ Es)
 
@@ -71,74 +65,8 @@ module _ {P : Program} (L : Link P) {E : List Desc} (n : Now P E) where
   abbrev Holds : Instr → List Val → Type 0
   Holds i vs = Good P E (execute P (here n) vs i)
 
-  -- ---- returns
-  back-ok : {Rs : List Desc} {q′ : ℕ} {ks : List Call} → Calls P (n .Ψ) E ks Rs q′ → (rs : List Val) → All2 (VD P (n .Ψ)) rs Rs → Done (n .Ψ) q′ → Good P E (giveBack P (n .H) rs ks)
-  unfolding giveBack
-  back-ok cnil rs x y = ends (all-fit (n .heap) x)
-  back-ok (ccons {ks = ks} fs w g cs) rs x y = goes (inv (n .Ψ) fs (n .heap) g (w .back (n .Ψ) (keeps-self (suc (length ks)) (n .Ψ)) rs x y) cs)
-
-  self-ok : {q : ℕ} → Done (n .Ψ) q → T (selfReady (n .H) q)
-  self-ok dnone = tt
-  self-ok (dself {a} t p) = rw (n .heap .found a t ready p .ready) tt
-
-  leave-ok : (rs : List Val) → All2 (VD P (n .Ψ)) rs (meth n .results) → T (not (n .g)) → Good P E (leave P (here n) rs)
-  unfolding leave
-  leave-ok rs x ng = go (n .g) ng (n .flag)
-    where
-      go : (b : Bool) → T (not b) → FlagOK (n .Ψ) (n .q) b → Good P E (only (selfReady (n .H) (n .q)) (giveBack P (n .H) rs (n .ks)))
-      go true t f = absurd t
-      go false t (fclr y) = only-ok (selfReady (n .H) (n .q)) (self-ok y) (back-ok (n .calls) rs x y)
-
-  -- with the operands that the descriptor asks for, none or one
-  leave-with : (kind : Bool) (Ds : List Desc) → meth n .results ≡ Ds → length Ds ≤ 1 → {vs : List Val} {ts : List Ty} → Popped (R n) vs (tysOf Ds ++ []) ts → T kind → T (not (n .g)) → Good P E (leaveWith P (here n) kind vs)
-  unfolding leaveWith
-  leave-with kind Ds e l {vs} {ts} p k ng =
-      let p′ : Popped (R n) vs (tysOf (meth n .results) ++ []) ts = rw e p in
-      only-ok kind k (args-ok L n (meth n .results) [] [] [] p′ anil _ (λ rs r x y. leave-ok rs (once (meth n .results) (rw e l) x) ng))
-    where
-      once : (Ds : List Desc) → length Ds ≤ 1 → {rs : List Val} → All2 (VD P (n .Ψ)) rs (reverseAux Ds []) → All2 (VD P (n .Ψ)) rs Ds
-      once [] l x = x
-      once (D ∷ []) l x = x
-      once (D ∷ D′ ∷ Ds) l x = absurd (omega arith)
-
-  pub ireturn-ok : {vs : List Val} → Sees n ireturn → Popped (R n) vs (int ∷ []) (drop 1 (n .s)) → Holds ireturn vs
-  unfolding execute rule
-  ireturn-ok a p =
-      let l = n .checked .single in
-      let e : meth n .results ≡ dint ∷ [] = go (meth n .results) (a .ask .0) l in
-      leave-with (returnsInt (meth n .results)) (dint ∷ []) e (omega arith) p (a .ask .0) (a .ask .1 .0)
-    where
-      go : (Ds : List Desc) → T (returnsInt Ds) → length Ds ≤ 1 → Ds ≡ dint ∷ []
-      go [] t l = absurd t
-      go (dint ∷ []) t l = refl
-      go (dint ∷ D ∷ Ds) t l = absurd (omega arith)
-      go (dref u ∷ Ds) t l = absurd t
-
-  pub areturn-ok : {vs : List Val} → Sees n areturn → Popped (R n) vs (returned (meth n .results) ∷ []) (drop 1 (n .s)) → Holds areturn vs
-  unfolding execute rule
-  areturn-ok {vs} a p =
-      let l = n .checked .single in
-      let x = go (meth n .results) (a .ask .0) l in
-      let p′ : Popped (R n) vs (returned (dref (x .0) ∷ []) ∷ []) (drop 1 (n .s)) = rw (x .1) at p in
-      leave-with (returnsRef (meth n .results)) (dref (x .0) ∷ []) (x .1) (omega arith) p′ (a .ask .0) (a .ask .1 .0)
-    where
-      go : (Ds : List Desc) → T (returnsRef Ds) → length Ds ≤ 1 → (u : Ref) × (Ds ≡ dref u ∷ [])
-      go [] t l = absurd t
-      go (dint ∷ Ds) t l = absurd t
-      go (dref u ∷ []) t l = (u, refl)
-      go (dref u ∷ D ∷ Ds) t l = absurd (omega arith)
-
-  pub return-ok : {vs : List Val} → Sees n return → All2 (R n) vs (n .s) → Holds return vs
-  unfolding execute rule
-  return-ok a ts = leave-with (returnsVoid (meth n .results)) [] (go (meth n .results) (a .ask .0)) (omega arith) (pnil ts) (a .ask .0) (a .ask .1 .0)
-    where
-      go : (Ds : List Desc) → T (returnsVoid Ds) → Ds ≡ []
-      go [] t = refl
-      go (D ∷ Ds) t = absurd t
-
-  -- ---- calls
   -- into a method that has passed, over a caller that waits
-  enter-ok : {Ψ′ : HTys} (c m q : ℕ) (args vs : List Val) (fs : List Frame) → HOK P Ψ′ (n .H) → Keeps (depth n) (n .Ψ) Ψ′ → Checked P (method P c m) fs
+  pub enter-ok : {Ψ′ : HTys} (c m q : ℕ) (args vs : List Val) (fs : List Frame) → HOK P Ψ′ (n .H) → Keeps (depth n) (n .Ψ) Ψ′ → Checked P (method P c m) fs
       → Top P Ψ′ (suc (depth n)) (method P c m) fs 0 q (paddedLocals (body (method P c m) .maxLocals) args) []
       → Waits P Ψ′ (depth n) (meth n) (n .fs) (n .o) (n .q) (n .ls) vs (method P c m .results) q → Good P E (enter P (here n) c m q args vs)
   unfolding enter
@@ -159,7 +87,7 @@ module _ {P : Program} (L : Link P) {E : List Desc} (n : Now P E) where
       typed (keepFlag k (n .flag)) (n .me) (all2-map (λ v t z. keepVT k z) (n .locals)) (all2-append (args-typed (meth n) (depth n) (n .σ) x) (all2-map (λ v t z. keepVT k z) y))
 
   -- the arguments, in order
-  params-back : (Ds : List Desc) {args : List Val} → All2 (VD P (n .Ψ)) args (reverseAux (reverse Ds) []) → All2 (VD P (n .Ψ)) args Ds
+  pub params-back : (Ds : List Desc) {args : List Val} → All2 (VD P (n .Ψ)) args (reverseAux (reverse Ds) []) → All2 (VD P (n .Ψ)) args Ds
   params-back Ds x = rw (reverse-reverse Ds) at x
 
   pub invokestatic-ok : Accepts P → (m : MethodRef) → MethodOk P m → T (isStaticCall P m) → {vs : List Val} → Sees n (invokestatic m)
@@ -169,9 +97,6 @@ module _ {P : Program} (L : Link P) {E : List Desc} (n : Now P E) where
       let p′ : Popped (R n) vs (tysOf (reverse (found P m .params)) ++ []) (drop (length (arguments (found P m))) (n .s)) = rw (append-nil (tysOf (reverse (found P m .params))), tys-aux (found P m .params) []) p in
       args-ok L n (reverse (found P m .params)) [] [] [] p′ anil _ go
     where
-      N : Method
-      N = found P m
-
       plain : T (isConstructor (found P m)) → ⊥
       plain t = no (isConstructor (found P m)) t st
         where
@@ -180,7 +105,7 @@ module _ {P : Program} (L : Link P) {E : List Desc} (n : Now P E) where
           no false t s = t
 
       static : found P m .static ≡ true
-      static = is-true (found P m .static) (yes′ (isConstructor (found P m)) st)
+      static = T-true (found P m .static) (yes′ (isConstructor (found P m)) st)
         where
           yes′ : (b : Bool) → T (cond b false (found P m .static)) → T (found P m .static)
           yes′ true s = absurd s
@@ -197,7 +122,7 @@ module _ {P : Program} (L : Link P) {E : List Desc} (n : Now P E) where
       go args rest x (pnil ts) =
           only-ok (resultRoom P (here n) (found P m) rest) (results-room (found P m) rest _ ts (a .room))
           (enter-ok (m .owner) (m .index) 0 args rest (ok .0) (n .heap) (keeps-self (depth n) (n .Ψ)) (ok .1)
-          (entering L (suc (depth n)) 0 (λ j. 0) args (ok .1) (rw (is-false (isConstructor (found P m)) plain) (fclr dnone)) nobody (rw static (args-typed (found P m) (suc (depth n)) (λ j. 0) (params-back (found P m .params) x))))
+          (entering L (suc (depth n)) 0 (λ j. 0) args (ok .1) (rw (T-false (isConstructor (found P m)) plain) (fclr dnone)) nobody (rw static (args-typed (found P m) (suc (depth n)) (λ j. 0) (params-back (found P m .params) x))))
           (record { back = λ Ψ′ kp rs x y. onto L n a tt (results-slots (found P m .results) kp x ts); catch = λ Ψ′ kp. kept-catches L n a (n .locals) kp }))
 
   pub invokevirtual-ok : Accepts P → (m : MethodRef) → MethodOk P m → T (isVirtualCall P m) → {vs : List Val} → Sees n (invokevirtual m)
@@ -215,7 +140,7 @@ module _ {P : Program} (L : Link P) {E : List Desc} (n : Now P E) where
           no false t s = t
 
       bound : found P m .static ≡ false
-      bound = is-false (found P m .static) (T-not (found P m .static) (yes′ (isConstructor (found P m)) st))
+      bound = T-false (found P m .static) (T-not (found P m .static) (yes′ (isConstructor (found P m)) st))
         where
           yes′ : (b : Bool) → T (cond b false (not (found P m .static))) → T (not (found P m .static))
           yes′ true s = absurd s
@@ -241,7 +166,7 @@ module _ {P : Program} (L : Link P) {E : List Desc} (n : Now P E) where
           ok = acc .passed (w .class′) (w .index) (w .bundle) (w .there)
 
           not-init : isConstructor (method P (w .class′) (w .index)) ≡ false
-          not-init = is-false (isConstructor (method P (w .class′) (w .index))) (λ t. plain (rw (w .sig) at t))
+          not-init = T-false (isConstructor (method P (w .class′) (w .index))) (λ t. plain (rw (w .sig) at t))
 
           not-static : method P (w .class′) (w .index) .static ≡ false
           not-static = w .static ∙ bound
@@ -260,146 +185,3 @@ module _ {P : Program} (L : Link P) {E : List Desc} (n : Now P E) where
           only-ok (resultRoom P (here n) (found P m) r) (results-room (found P m) r _ ts (a .room))
           (only-ok (readyAt (n .H) b) (rw (w .ready) tt) (only-ok (valueFits P (n .H) (dref (cls (m .named))) (ref (suc b))) (fits-ok (n .heap) (vdref {a = b} e q s))
           (rw (w .type) (call-ok args r (params-back (found P m .params) x) ts b e q s))))
-
-  -- ---- constructor calls
-  -- an object that `<init>` of the class c may take is of c or below it
-  init-below : (c e : ℕ) (K : Key) → T (keyOk P (meth n) c K) → T (below P e (keyClass P (meth n) K)) → T (below P e c)
-  init-below c e (at K) y x = rw (eqb→eq _ c y) at x
-  init-below c e self y x = go (either-of (eqb (meth n .owner) c) _ y)
-    where
-      go : T (eqb (meth n .owner) c) ⊎ T (eqb (parent P (meth n .owner)) c) → T (below P e c)
-      go (inl z) = rw (eqb→eq (meth n .owner) c z) at x
-      go (inr z) = rw (eqb→eq (parent P (meth n .owner)) c z) at (below-trans P L e (meth n .owner) _ x (below-parent P L (meth n .owner)))
-
-  -- the uninitialised object K has become ready
-  made-flag : {Ψ′ : HTys} (K : Key) (r : ℕ) (t : Ref) → Keeps (depth n) (n .Ψ) Ψ′ → r ≡ n .σ K → Ψ′ r ≡ some (hty t ready) → FlagOK Ψ′ (n .q) (flagAfter K (n .g))
-  made-flag (at K) r t k u p = keepFlag k (n .flag)
-  made-flag {Ψ′} self r t k u p = fclr (go (n .me))
-    where
-      go : {q : ℕ} → Me (n .σ) q → Done Ψ′ q
-      go nobody = dnone
-      go someone = dself {a = n .σ self} t (rw (← u) p)
-
-  -- the slots of the call then, with the operands below the object
-  made-slots : {Ψ′ : HTys} (K : Key) (r e : ℕ) {vs : List Val} {ts : List Ty} → Others (depth n) K (n .Ψ) Ψ′ → Keeps (depth n) (n .Ψ) Ψ′ → r ≡ n .σ K → Ψ′ r ≡ some (hty (cls e) ready) → T (below P e (keyClass P (meth n) K)) → All2 (R n) vs ts
-      → Slots P (meth n) Ψ′ (depth n) (n .σ) (n .q) (n .ls) vs (initialised P (meth n) K (state (n .g) (n .l) ts))
-  unfolding refFits
-  made-slots {Ψ′} K r e ot k u p y x = typed (made-flag K r (cls e) k u p) (n .me) (sw (n .locals)) (sw x)
-    where
-      sw : {vs : List Val} {ts : List Ty} → All2 (R n) vs ts → All2 (VT P (meth n) Ψ′ (depth n) (n .σ)) vs (replaceAll K (ini (cls (keyClass P (meth n) K))) ts)
-      sw = swapped P (meth n) (n .Ψ) Ψ′ (depth n) (n .σ) (n .σ) K ot (λ j z. refl) (ini (cls (keyClass P (meth n) K))) (hit-made P (meth n) (n .Ψ) Ψ′ (depth n) (n .σ) (n .σ) K ot (λ j z. refl) r e (keyClass P (meth n) K) u p y)
-
-  -- with the receiver's type known
-  construct-ok : Accepts P → (m : MethodRef) → MethodOk P m → T (isInitCall P m) → Sees n (invokespecial m) → (K : Key) → operand (length (arguments (found P m))) (n .s) ≡ uninit K → T (keyOk P (meth n) (m .named) K)
-      → (args : List Val) {v : Val} (rest : List Val) → All2 (VD P (n .Ψ)) args (found P m .params) → R n v (uninit K) → All2 (R n) rest (drop (suc (length (arguments (found P m)))) (n .s))
-      → Good P E (withUnready P (n .H) (m .named) v λ b. construct P (here n) m b args rest)
-  unfolding construct refFits rule constructing
-  construct-ok acc m k st a K e y args rest x (vraw {a = r} c u pr z) ts =
-      only-ok (not (readyAt (n .H) r)) (rw (w .ready) tt) (only-ok (refFits P (typeAt (n .H) r) (cls (m .named))) (rw (w .type) sb)
-      (cond-ok (ltb (m .owner) firstClass) (λ t. built) (λ t. bundle (λ l. t (lt→ltb (m .owner) firstClass l)))))
-    where
-      w : Block P (n .Ψ) (n .H) r (cls c) (born (depth n) K)
-      w = n .heap .found r (cls c) (born (depth n) K) pr
-
-      sb : T (below P c (m .named))
-      sb = init-below (m .named) c K y z
-
-      -- a built-in class's constructor makes it ready
-      built : Good P E (pushOn P (here n) (markReady (n .H) r) rest)
-      built =
-          let kp : Keeps (depth n) (n .Ψ) (upd (n .Ψ) r (hty (cls c) ready)) = own-keeps (n .Ψ) (depth n) K r (cls c) ready pr in
-          let sl : Slots P (meth n) (upd (n .Ψ) r (hty (cls c) ready)) (depth n) (n .σ) (n .q) (n .ls) rest (ruleAt n (invokespecial m) .after) =
-          rw e (made-slots K r c (own-others (n .Ψ) (depth n) K r (cls c) ready pr) kp u (own-at (n .Ψ) (depth n) K r (cls c) ready pr) z ts) in
-          on′ L n (markReady (n .H) r) a tt (readied (n .heap) r (cls c) (depth n) K pr kp) kp sl
-
-      bundle : (m .owner < firstClass → ⊥) → Good P E (enter P (here n) (m .owner) (m .index) (suc r) (ref (suc r) ∷ args) rest)
-      bundle ge =
-          enter-ok (m .owner) (m .index) (suc r) (ref (suc r) ∷ args) rest (ok .0) (lent (n .heap) r (cls c) (depth n) K (suc (depth n)) self pr k₁) k₁ (ok .1)
-          (entering L (suc (depth n)) (suc r) (λ j. r) (ref (suc r) ∷ args) (ok .1) (rw init fset) someone typed′)
-          (record { back = λ Ψ′ kp rs x dn. let v : rs ≡ [] = none-back (found P m .results) void x in rw v (after Ψ′ kp dn); catch = catch′ })
-        where
-          far : firstClass ≤ m .owner
-          far = omega (arith, ge)
-
-          ok : (fs : List Frame) × Checked P (found P m) fs
-          ok = acc .passed (m .owner) (m .index) far (k .there)
-
-          init : isConstructor (found P m) ≡ true
-          init = is-true (isConstructor (found P m)) st
-
-          bound : found P m .static ≡ false
-          bound = L .bound (m .owner) (m .index) far (k .there) st
-
-          void : found P m .results ≡ []
-          void = L .void (m .owner) (m .index) far (k .there) st
-
-          owner : found P m .owner ≡ m .named
-          owner = L .owned (m .owner) (m .index) far (k .there) ∙ k .own st
-
-          Ψ₁ : HTys
-          Ψ₁ = upd (n .Ψ) r (hty (cls c) (born (suc (depth n)) self))
-
-          k₁ : Keeps (depth n) (n .Ψ) (upd (n .Ψ) r (hty (cls c) (born (suc (depth n)) self)))
-          k₁ = own-keeps (n .Ψ) (depth n) K r (cls c) (born (suc (depth n)) self) pr
-
-          p₁ : upd (n .Ψ) r (hty (cls c) (born (suc (depth n)) self)) r ≡ some (hty (cls c) (born (suc (depth n)) self))
-          p₁ = own-at (n .Ψ) (depth n) K r (cls c) (born (suc (depth n)) self) pr
-
-          mine : T (below P c (found P m .owner))
-          mine = rw owner sb
-
-          typed′ : All2 (VT P (found P m) (upd (n .Ψ) r (hty (cls c) (born (suc (depth n)) self))) (suc (depth n)) (λ j. r)) (ref (suc r) ∷ args) (parameterTys (found P m))
-          typed′ = rw (bound, init) (acons (vraw {a = r} {k = self} c refl p₁ mine) (args-typed (found P m) (suc (depth n)) (λ j. r) (all2-map (λ v D w. keepVD k₁ w) x)))
-
-          others : (Ψ′ : HTys) → Keeps (suc (depth n)) (upd (n .Ψ) r (hty (cls c) (born (suc (depth n)) self))) Ψ′ → Others (depth n) K (n .Ψ) Ψ′
-          others Ψ′ kp = record { kept = λ i t w o ne j. kp .kept i t w o (own-others (n .Ψ) (depth n) K r (cls c) (born (suc (depth n)) self) pr .kept i t w o ne j) }
-
-          keeps : (Ψ′ : HTys) → Keeps (suc (depth n)) (upd (n .Ψ) r (hty (cls c) (born (suc (depth n)) self))) Ψ′ → Keeps (depth n) (n .Ψ) Ψ′
-          keeps Ψ′ kp = keeps-then k₁ (keeps-down (depth n) (suc (depth n)) (omega arith) kp)
-
-          still : (Ψ′ : HTys) → Keeps (suc (depth n)) (upd (n .Ψ) r (hty (cls c) (born (suc (depth n)) self))) Ψ′ → Done Ψ′ (suc r) → Ψ′ r ≡ some (hty (cls c) ready)
-          still Ψ′ kp (dself t p′) = let w = kp .stays r (cls c) (born (suc (depth n)) self) p₁ in let v = w .1 in cc
-
-          none-back : (Rs : List Desc) → Rs ≡ [] → {Ψ′ : HTys} {rs : List Val} → All2 (VD P Ψ′) rs Rs → rs ≡ []
-          none-back [] e anil = refl
-          none-back (D ∷ Ds) e x = let z : _≡_ {A = ℕ} 0 1 = cc in absurd (omega arith)
-
-          after : (Ψ′ : HTys) → Keeps (suc (depth n)) (upd (n .Ψ) r (hty (cls c) (born (suc (depth n)) self))) Ψ′ → Done Ψ′ (suc r) → Top P Ψ′ (depth n) (meth n) (n .fs) (here n .after) (n .q) (n .ls) rest
-          after Ψ′ kp dn =
-              let sl : Slots P (meth n) Ψ′ (depth n) (n .σ) (n .q) (n .ls) rest (ruleAt n (invokespecial m) .after) = rw e (made-slots K r c (others Ψ′ kp) (keeps Ψ′ kp) u (still Ψ′ kp dn) z ts) in
-              onto L n a tt sl
-
-          catch′ : (Ψ′ : HTys) → Keeps (suc (depth n)) (upd (n .Ψ) r (hty (cls c) (born (suc (depth n)) self))) Ψ′ → Catches P Ψ′ (depth n) (meth n) (n .fs) (n .o) (n .q) (n .ls)
-          catch′ Ψ′ kp =
-              let lo : All2 (VT P (meth n) Ψ′ (depth n) (n .σ)) (n .ls) (ruleAt n (invokespecial m) .caught) =
-              rw e (swapped P (meth n) (n .Ψ) Ψ′ (depth n) (n .σ) (n .σ) K (others Ψ′ kp) (λ j z. refl) top (hit-top P (meth n) (n .Ψ) Ψ′ (depth n) (n .σ) (n .σ) K (others Ψ′ kp) (λ j z. refl)) (n .locals)) in
-              catches L (n .checked) (n .o) (n .g) (keepFlag (keeps Ψ′ kp) (n .flag)) (n .me) lo (a .catch)
-
-  pub invokespecial-ok : Accepts P → (m : MethodRef) → MethodOk P m → T (isInitCall P m) → {vs : List Val} → Sees n (invokespecial m) → All2 (R n) vs (n .s) → Holds (invokespecial m) vs
-  unfolding execute rule constructing callInit
-  invokespecial-ok acc m k st {vs} a ts =
-      let us : List Ty = arguments (found P m) in
-      let c = leb→le (length (us ++ (top ∷ []))) (length (n .s)) (a .count) in
-      let e : length (us ++ (top ∷ [])) ≡ suc (length us) = length-append us (top ∷ []) ∙ plus-one (length us) in
-      let p : Popped (R n) vs us (drop (length us) (n .s)) = popped L us (top ∷ []) (n .s) (le→leb (length us) (length (n .s)) (omega arith)) ts (a .need) in
-      let p′ : Popped (R n) vs (tysOf (reverse (found P m .params)) ++ []) (drop (length us) (n .s)) = rw (append-nil (tysOf (reverse (found P m .params))), tys-aux (found P m .params) []) p in
-      args-ok L n (reverse (found P m .params)) [] [] [] p′ anil _ (go (omega arith))
-    where
-      plus-one : (k : ℕ) → k + 1 ≡ suc k
-      plus-one k = omega arith
-
-      kinds : (t : Ty) → operand (length (arguments (found P m))) (n .s) ≡ t → T (initOk P (meth n) (m .named) t) → (args : List Val) {v : Val} (r : List Val) → All2 (VD P (n .Ψ)) args (found P m .params) → R n v t
-          → All2 (R n) r (drop (suc (length (arguments (found P m)))) (n .s)) → Good P E (withUnready P (n .H) (m .named) v λ b. construct P (here n) m b args r)
-      kinds top e y args r x v ts = absurd y
-      kinds int e y args r x v ts = absurd y
-      kinds null e y args r x v ts = absurd y
-      kinds (ini u) e y args r x v ts = absurd y
-      kinds (uninit K) e y args r x v ts = construct-ok acc m k st a K e y args r x v ts
-
-      here-ok : (args : List Val) {rest : List Val} → All2 (VD P (n .Ψ)) args (found P m .params) → Peeled (R n) rest (operand (length (arguments (found P m))) (n .s)) (drop (suc (length (arguments (found P m)))) (n .s))
-          → Good P E (popAny rest λ v r. withUnready P (n .H) (m .named) v λ b. construct P (here n) m b args r)
-      here-ok args x (peeled {vs = r} v ts) = kinds (operand (length (arguments (found P m))) (n .s)) refl (a .ask .0) args r x v ts
-
-      go : length (arguments (found P m)) < length (n .s) → (args rest : List Val) → All2 (VD P (n .Ψ)) args (reverseAux (reverse (found P m .params)) []) → Popped (R n) rest [] (drop (length (arguments (found P m))) (n .s))
-          → Good P E (popAny rest λ v r. withUnready P (n .H) (m .named) v λ b. construct P (here n) m b args r)
-      go l args rest x (pnil ts) = here-ok args (params-back (found P m .params) x) (peel (length (arguments (found P m))) (n .s) l ts)

@@ -6,9 +6,9 @@ use native.Mathlib.Omega.{arith}
 use lib.ListN.{length, getD, take, drop, replicate, length-append, length-drop, length-replicate, length-set, getD-replicate, List·getD-append}
 use lib.Seq.{getD-append-add, getD-set-same, getD-set-other, getD-take, length-take-le}
 use lib.Dec.{T, eqb, eqb→eq, ltb→lt}
+use Rattle.kit.specs.Bools.{T-false}
 use Rattle.reader.specs.Descriptors.{Ref, cls, arr, Desc, dint, dref, knownRef, knownDesc, dimensions, depthOf}
 use Rattle.machine.specs.Heap.{Heap, cell, intBase, descOf, refOf, baseOf, elementBase, typeAt, sizeAt, readyAt, elementAt, store, need, header, allocate}
-use Rattle.soundness.specs.Base.{is-false}
 
 -- ---- a store
 module _ (H : Heap) (i v : ℕ) where
@@ -99,7 +99,7 @@ module _ (n : ℕ) (few : n < intBase) where
     element-again : (r : Ref) → T (knownRef n r) → descOf (baseOf r) (dimensions r) ≡ dref r
     element-again (cls c) h =
         let l : c < n = ltb→lt c n h in
-        rw (is-false (eqb c intBase) (λ t. let e : c ≡ intBase = eqb→eq c intBase t in omega arith)) refl
+        rw (T-false (eqb c intBase) (λ t. let e : c ≡ intBase = eqb→eq c intBase t in omega arith)) refl
     element-again (arr d) h = ap (λ (e : Desc). dref (arr e)) (desc-again d h)
 
     desc-again : (d : Desc) → T (knownDesc n d) → descOf (elementBase d) (depthOf d) ≡ d

@@ -124,12 +124,6 @@ module _ (P : Program) where
       desc-trans (dref t) (dref u) dint p q = absurd q
       desc-trans (dref t) (dref u) (dref v) p q = ref-trans t u v p q
 
-    -- every initialised object is an Object
-    pub ref-object : (t : Ref) → T (refFits P t (cls 0))
-    unfolding refFits
-    ref-object (cls c) = L .ends c
-    ref-object (arr d) = eqb-refl 0
-
   mutual
     unfolding refFits descFits
 

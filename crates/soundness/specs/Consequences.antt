@@ -1,5 +1,5 @@
 -- What demand 3 names, each by itself, of every machine that the run of an accepted bundle comes through.
-use Prim.Native.Nat.{ℕ, _+_, _<_, _≤_}
+use Prim.Native.Nat.{ℕ, zero, suc, _+_, _<_, _≤_}
 use mathlib.Core.Path.{_≡_, refl}
 use mathlib.Core.Bool.{Bool, true, false, cond}
 use mathlib.Core.List.{List, [], _∷_}
@@ -8,7 +8,7 @@ use lib.ListN.{length, drop}
 use lib.Dec.{T, eqb-refl, leb→le, ltb→lt}
 use Rattle.kit.specs.Claims.{pass}
 use Rattle.reader.specs.BuiltIns.{firstClass, object}
-use Rattle.reader.specs.Descriptors.{Desc, cls, arr, dref}
+use Rattle.reader.specs.Descriptors.{Ref, Desc, cls, arr, dref}
 use Rattle.reader.specs.Program.{Program, Method, method}
 use Rattle.reader.specs.Link.{program}
 use Rattle.verifier.specs.Instruction.{Instr, nop, aconstnull, pop, dup, dupx1, swap, ineg, arraylength, iaload, aaload, iastore, aastore, athrow, ireturn, areturn, return, iconst, iload, aload, istore, astore, goto, new, iinc, ibin, idiv, ifint, ificmp, ifacmp, ifnull, getfield, putfield, invokevirtual, invokespecial, invokestatic, newarray, checkcast, instanceof, illegal, unresolved}
@@ -17,12 +17,12 @@ use Rattle.verifier.specs.Types.{Key, Ty, top, int, null, ini, uninit, objectTy
 use Rattle.verifier.specs.States.{State, state, topOf}
 use Rattle.verifier.specs.Rule.{rule, calling, constructing}
 use Rattle.verifier.specs.Verify.{readShaped, verdictOf}
-use Rattle.machine.specs.Heap.{Heap, Val, isNum, valueFits}
+use Rattle.machine.specs.Heap.{Heap, Val, empty, num, ref, readyAt, isNum, valueFits}
 use Rattle.machine.specs.Machine.{call, Machine, machine, heapOf, Result, next, stopped, stuck}
 use Rattle.machine.specs.Step.{step}
 use Rattle.machine.specs.Run.{isEntry, started}
-use Rattle.soundness.specs.Base.{second-of, both-of}
-use Rattle.soundness.specs.Accepted.{Accepted, accepted}
+use Rattle.soundness.specs.Base.{first-of, second-of, both-of}
+use Rattle.soundness.specs.Accepted.{accepted}
 use Rattle.soundness.specs.Classes.{Link}
 use Rattle.soundness.specs.Linking.{linking}
 use Rattle.soundness.specs.Typing.{HTys, VT, vtop, vint, vnull, vnulc, vini, vraw, vdref, fit, Peeled, peeled, Popped, pnil, pcons}
@@ -65,6 +65,26 @@ unfoldable pub areAsked : Program → Heap → List Ty → List Val → Bool
 areAsked P H [] vs = true
 areAsked P H (u ∷ us) [] = false
 areAsked P H (u ∷ us) (v ∷ vs) = cond (isAsked P H u v) (areAsked P H us vs) false
+
+-- a reference is null or to an object on which a built-in class's constructor has run
+abbrev pub isMade : Heap → Val → Bool
+isMade H empty = true
+isMade H (num a) = true
+isMade H (ref zero) = true
+isMade H (ref (suc a)) = readyAt H a
+
+-- so is each operand, but those that are copied, dropped or the receiver of `<init>`
+abbrev pub usedMade : Heap → Ty → Val → Bool
+usedMade H top v = true
+usedMade H int v = isMade H v
+usedMade H null v = isMade H v
+usedMade H (ini u) v = isMade H v
+usedMade H (uninit k) v = true
+
+unfoldable pub allMade : Heap → List Ty → List Val → Bool
+allMade H [] vs = true
+allMade H (u ∷ us) [] = true
+allMade H (u ∷ us) (v ∷ vs) = cond (usedMade H u v) (allMade H us vs) false
 
 -- what each instruction takes does not hang on the state
 takes-same : (P : Program) (M : Method) (o : ℕ) (i : Instr) (S : State) → rule P M o i S .takes ≡ takes P M i
@@ -186,40 +206,65 @@ asked-length P H [] vs h = omega arith
 asked-length P H (u ∷ us) [] h = absurd h
 asked-length P H (u ∷ us) (v ∷ vs) h = let i = asked-length P H us vs (second-of (isAsked P H u v) _ h) in omega arith
 
+fits-made : (P : Program) (H : Heap) (t : Ref) (v : Val) → T (valueFits P H (dref t) v) → T (isMade H v)
+fits-made P H t empty h = tt
+fits-made P H t (num a) h = tt
+fits-made P H t (ref zero) h = tt
+fits-made P H t (ref (suc a)) h = first-of (readyAt H a) _ h
+
+asked-made : (P : Program) (H : Heap) (us : List Ty) (vs : List Val) → T (areAsked P H us vs) → T (allMade H us vs)
+unfolding areAsked isAsked allMade
+asked-made P H [] vs h = tt
+asked-made P H (u ∷ us) [] h = tt
+asked-made P H (u ∷ us) (v ∷ vs) h = both-of (usedMade H u v) _ (one-made u v (first-of (isAsked P H u v) _ h)) (asked-made P H us vs (second-of (isAsked P H u v) _ h))
+  where
+    one-made : (u : Ty) (v : Val) → T (isAsked P H u v) → T (usedMade H u v)
+    one-made top v h = tt
+    one-made int empty h = absurd h
+    one-made int (num a) h = tt
+    one-made int (ref r) h = absurd h
+    one-made null v h = fits-made P H (cls object) v h
+    one-made (ini t) v h = fits-made P H t v h
+    one-made (uninit k) v h = tt
+
 -- ---- the run of an accepted bundle
 module _ (s : List ℕ) (v : verdictOf s ≡ pass) (P : Program) (e : readShaped s ≡ program P) (i j : ℕ) (h : T (isEntry P i j)) (args : List ℕ)
     (n : length args ≡ length (method P (firstClass + i) j .params)) (cells : List ℕ) (K : Machine) (r : Reached P (started P cells i j args) K) where
-  reached : Inv P (method P (firstClass + i) j .results) K
-  reached =
-      let a : Accepted s P = accepted s v P e in
-      let L : Link P = linking a in
-      let acc : Accepts P = passing a in
-      reached-inv L acc (method P (firstClass + i) j .results) (start-ok L acc i j (entry P i j h) args cells n) r
+  abbrev link : Link P
+  link = linking (accepted s v P e)
 
-  abbrev L′ : Link P
-  L′ = linking (accepted s v P e)
+  abbrev passed : Accepts P
+  passed = passing (accepted s v P e)
 
-  abbrev acc′ : Accepts P
-  acc′ = passing (accepted s v P e)
+  abbrev results : List Desc
+  results = method P (firstClass + i) j .results
+
+  reached : Inv P results K
+  reached = reached-inv link passed results (start-ok link passed i j (entry P i j h) args cells n) r
 
   -- the next step is not stuck
   pub never-stuck : step P K ≡ stopped stuck → ⊥
-  never-stuck = good-stuck L′ acc′ (method P (firstClass + i) j .results) (step-ok L′ acc′ (method P (firstClass + i) j .results) reached)
+  never-stuck = good-stuck link passed results (step-ok link passed results reached)
 
   -- control never leaves the code
   pub control-stays : offsetOf K < length (codeOf (codeAt P K))
-  control-stays = order-code L′ acc′ (method P (firstClass + i) j .results) reached
+  control-stays = order-code link passed results reached
 
   -- no operand is above max_stack
   pub none-above-max-stack : length (operandsOf K) ≤ body (codeAt P K) .maxStack
-  none-above-max-stack = order-room L′ acc′ (method P (firstClass + i) j .results) reached
+  none-above-max-stack = order-room link passed results reached
 
-  -- no operand is of the wrong kind, or an unready object but where it is copied, dropped or the receiver of `<init>`
+  -- no operand is of the wrong kind
   pub none-of-wrong-kind : T (areAsked P (heapOf K) (takes P (codeAt P K) (instruction P (codeAt P K) (offsetOf K))) (operandsOf K))
-  none-of-wrong-kind = order-asked L′ acc′ (method P (firstClass + i) j .results) reached
+  none-of-wrong-kind = order-asked link passed results reached
 
+  -- no object is read, written, called, passed on or returned before a built-in class's constructor has run on it
+  pub none-unready : T (allMade (heapOf K) (takes P (codeAt P K) (instruction P (codeAt P K) (offsetOf K))) (operandsOf K))
+  none-unready = asked-made P (heapOf K) (takes P (codeAt P K) (instruction P (codeAt P K) (offsetOf K))) (operandsOf K) none-of-wrong-kind
+
+  -- arraylength too takes null or a ready object
   pub array-of-arraylength : instruction P (codeAt P K) (offsetOf K) ≡ arraylength → T (areAsked P (heapOf K) (objectTy ∷ []) (operandsOf K))
-  array-of-arraylength = order-array L′ acc′ (method P (firstClass + i) j .results) reached
+  array-of-arraylength = order-array link passed results reached
 
   -- no operand is missing
   pub none-missing : length (takes P (codeAt P K) (instruction P (codeAt P K) (offsetOf K))) ≤ length (operandsOf K)

@@ -5,6 +5,7 @@ use mathlib.Core.List.{List, [], _∷_, _++_}
 use native.Mathlib.Omega.{arith}
 use lib.ListN.{length, drop}
 use lib.Dec.{T, ltb, leb, leb→le, le→leb}
+use Rattle.kit.specs.Bools.{T-true}
 use Rattle.reader.specs.Descriptors.{Desc, cls}
 use Rattle.reader.specs.Program.{Program, method}
 use Rattle.verifier.specs.Instruction.{Instr, nop, aconstnull, pop, dup, dupx1, swap, ineg, arraylength, iaload, aaload, iastore, aastore, athrow, ireturn, areturn, return, iconst, iload, aload, istore, astore, goto, new, iinc, ibin, idiv, ifint, ificmp, ifacmp, ifnull, getfield, putfield, invokevirtual, invokespecial, invokestatic, newarray, checkcast, instanceof, illegal, unresolved}
@@ -17,7 +18,7 @@ use Rattle.verifier.specs.Walk.{operandsFit}
 use Rattle.machine.specs.Heap.{Val}
 use Rattle.machine.specs.Machine.{call, Machine, machine}
 use Rattle.machine.specs.Step.{execute, step}
-use Rattle.soundness.specs.Base.{is-true, All2}
+use Rattle.soundness.specs.Base.{All2}
 use Rattle.soundness.specs.Classes.{Link}
 use Rattle.soundness.specs.Resolution.{InstrOk, instruction-ok}
 use Rattle.soundness.specs.Typing.{vint, fit, Peeled, peeled}
@@ -26,7 +27,9 @@ use Rattle.soundness.specs.Inv.{Slots, typed, Inv, inv, Good}
 use Rattle.soundness.specs.Steps.{Now, here, meth, R, Sees}
 use Rattle.soundness.specs.Forms.{one, two, pops, nop-ok, aconstnull-ok, iconst-ok, pop-ok, dup-ok, dupx1-ok, swap-ok, ineg-ok, ibin-ok, idiv-ok, iload-ok, iinc-ok, aload-ok, istore-ok, astore-ok, goto-ok, ifint-ok, ificmp-ok, ifnull-ok, ifacmp-ok, checkcast-ok, instanceof-ok}
 use Rattle.soundness.specs.Objects.{getfield-ok, putfield-ok, arraylength-ok, iaload-ok, iastore-ok, aaload-ok, aastore-ok, newarray-ok, new-ok, athrow-ok}
-use Rattle.soundness.specs.Calls.{Accepts, ireturn-ok, areturn-ok, return-ok, invokestatic-ok, invokevirtual-ok, invokespecial-ok}
+use Rattle.soundness.specs.Returns.{ireturn-ok, areturn-ok, return-ok}
+use Rattle.soundness.specs.Calls.{Accepts, invokestatic-ok, invokevirtual-ok}
+use Rattle.soundness.specs.Constructors.{invokespecial-ok}
 
 one-of-two : (k : ℕ) → T (leb 2 k) → T (leb 1 k)
 one-of-two k h = let i = leb→le 2 k h in le→leb 1 k (omega arith)
@@ -94,4 +97,4 @@ step-ok {P} L acc E (inv {H} {c} {m} {o} {q} {ls} {vs} {ks} Ψ fs hk gd t ck) = 
     go : {S : State} → Slots P (method P c m) Ψ (length ks) (t .last) q ls vs S → At P (method P c m) fs o S → Good P E (step P (machine H (call c m o q ls vs) ks))
     go (typed {g} {l} {s} f e x y) h =
         let n : Now P E = record { H = H; c = c; m = m; o = o; q = q; ls = ls; ks = ks; Ψ = Ψ; σ = t .last; g = g; l = l; s = s; fs = fs; heap = hk; checked = gd; calls = ck; flag = f; me = e; locals = x } in
-        rw (is-true (ltb o (length (codeOf (method P c m)))) (h .inside)) (exec-ok L acc n (instruction P (method P c m) o) (instruction-ok P L (method P c m) o) refl y (h .seen))
+        rw (T-true (ltb o (length (codeOf (method P c m)))) (h .inside)) (exec-ok L acc n (instruction P (method P c m) o) (instruction-ok P L (method P c m) o) refl y (h .seen))

@@ -1,7 +1,7 @@
 -- The invariant of a run, and how each way on keeps it.
 use Prim.Native.Nat.{ℕ, suc, _+_, _≤_}
 use mathlib.Core.Path.{_≡_, refl}
-use mathlib.Core.Bool.{Bool, true, false, cond, not, Bool·beq}
+use mathlib.Core.Bool.{Bool, true, false, cond, not}
 use mathlib.Core.List.{List, [], _∷_, _++_}
 use mathlib.Core.Option.{Option, none, some}
 use native.Mathlib.Omega.{arith}
@@ -21,7 +21,7 @@ use Rattle.verifier.specs.Frames.{Frame}
 use Rattle.verifier.specs.Walk.{frameAt, intoFrame, covers, handlerClaims, handlersClaims, walk, walkClaims}
 use Rattle.machine.specs.Heap.{Heap, Val, ref}
 use Rattle.machine.specs.Machine.{Call, call, Machine, machine, End, heapFull, depthFull, Result, next, ended, stopped, only, catcher, Landing, nowhere, landing, landingAt, land, landed}
-use Rattle.soundness.specs.Base.{first-of, second-of, guarded, AllT-left, AllT-right, All2, anil, acons, all2-map, all2-length}
+use Rattle.soundness.specs.Base.{first-of, second-of, guarded, AllT-left, AllT-right, All2, anil, acons, all2-map, all2-length, same-truth}
 use Rattle.soundness.specs.Demand3.{EndOk}
 use Rattle.soundness.specs.Classes.{Link}
 use Rattle.soundness.specs.Tables.{Table, found-stands}
@@ -118,18 +118,12 @@ calls-keep (ccons {ks = ks} fs w g cs) k =
 slots-room : {P : Program} {M : Method} {Ψ : HTys} {d : ℕ} {σ : Key → ℕ} {q : ℕ} {ls vs : List Val} {S : State} (n : ℕ) → Slots P M Ψ d σ q ls vs S → T (leb (length (stack S)) n) → T (leb (length vs) n)
 slots-room n (typed f e x y) r = rw (all2-length y) r
 
-same-flag : (g g′ : Bool) → T (Bool·beq g g′) → g ≡ g′
-same-flag true true t = refl
-same-flag true false t = absurd t
-same-flag false true t = absurd t
-same-flag false false t = refl
-
 module _ {P : Program} (L : Link P) where
   pub slots-into : {M : Method} {Ψ : HTys} {d : ℕ} {σ : Key → ℕ} {q : ℕ} {ls vs : List Val} {S S′ : State} → Slots P M Ψ d σ q ls vs S → Into P S S′ → Slots P M Ψ d σ q ls vs S′
   unfolding stateFits
   slots-into x same = x
   slots-into (typed {g} {l} {s} f e x y) (fitted {F = state g′ l′ s′} h) =
-      typed {g = g′} (rw (← same-flag g g′ (h .0)) f) e (fitAll L l′ x (AllT-left (slotsFit P l l′) _ (h .1 .1))) (fitAll L s′ y (AllT-right (slotsFit P l l′) _ (h .1 .1)))
+      typed {g = g′} (rw (← same-truth g g′ (h .0)) f) e (fitAll L l′ x (AllT-left (slotsFit P l l′) _ (h .1 .1))) (fitAll L s′ y (AllT-right (slotsFit P l l′) _ (h .1 .1)))
 
   module _ {M : Method} {fs : List Frame} (gd : Checked P M fs) where
     -- a frame that is meant stands at an instruction

@@ -1,20 +1,21 @@
 -- The first of a name and descriptor from a class upward: where it stands; and what a class below finds in its place.
 use Prim.Native.Nat.{ℕ, zero, suc, _<_, _≤_}
 use mathlib.Core.Path.{_≡_, refl, sym, ap, _∙_}
-use mathlib.Core.Bool.{Bool, true, false, cond, Bool·beq}
+use mathlib.Core.Bool.{Bool, true, false, cond}
 use mathlib.Core.List.{List, [], _∷_}
 use mathlib.Core.Logic.{_⊎_, inl, inr}
 use native.Mathlib.Omega.{arith}
 use native.Mathlib.Decide.{decLt}
 use lib.ListN.{length, getD, length-map, List·getD-map}
 use lib.Dec.{T, eqb, eqb→eq, eqb-refl, ltb, ltb→lt}
+use Rattle.kit.specs.Bools.{T-true}
 use Rattle.kit.specs.Lists.{eqList, eqList-true, eqList-eq}
 use Rattle.reader.specs.Names.{Text, init, isInit}
 use Rattle.reader.specs.Descriptors.{methodTypeAt}
 use Rattle.reader.specs.BuiltIns.{firstClass}
 use Rattle.reader.specs.Program.{Program, Class, Method, noMethod, methodTypeOr, Signature, signature, class, method, classCount, upTo, below, sameSignature, indexOf, methodSigs, nowhere, spot, seek, lookup}
 use Rattle.reader.specs.Link.{agrees}
-use Rattle.soundness.specs.Base.{is-true, first-of, second-of, either-of, left-of, right-of}
+use Rattle.soundness.specs.Base.{first-of, second-of, either-of, left-of, right-of, same-truth}
 use Rattle.soundness.specs.Classes.{Link, parent, up-below, up-root}
 
 abbrev pub noSignature : Signature
@@ -23,8 +24,8 @@ noSignature = signature [] []
 same-sig : (h g : Signature) → T (sameSignature h g) → h ≡ g
 unfolding sameSignature
 same-sig h g t =
-    let p : h .name ≡ g .name = eqList-true (h .name) (g .name) (is-true _ (first-of (eqList (h .name) (g .name)) _ t)) in
-    let q : h .descriptor ≡ g .descriptor = eqList-true (h .descriptor) (g .descriptor) (is-true _ (second-of (eqList (h .name) (g .name)) _ t)) in
+    let p : h .name ≡ g .name = eqList-true (h .name) (g .name) (T-true _ (first-of (eqList (h .name) (g .name)) _ t)) in
+    let q : h .descriptor ≡ g .descriptor = eqList-true (h .descriptor) (g .descriptor) (T-true _ (second-of (eqList (h .name) (g .name)) _ t)) in
     λ i. record { name = p i; descriptor = q i }
 
 pub index-at : (g : Signature) (hs : List Signature) → indexOf g hs < length hs → getD hs (indexOf g hs) noSignature ≡ g
@@ -107,19 +108,9 @@ module _ (P : Program) (sigs : Class → List Signature) (g : Signature) where
           let x : At P sigs g (suc n) 0 d j = seek-at (suc n) 0 d j (rw y at e) in
           absurd (ne (up-root P r (suc n) d (x .above)))
 
-pub is-init : (t : Text) → T (isInit t) → t ≡ init
-unfolding isInit
-is-init t h = eqList-true t init (is-true (eqList t init) h)
-
 pub init-is : (t : Text) → t ≡ init → T (isInit t)
 unfolding isInit
 init-is t e = rw (eqList-eq t init e) tt
-
-same-bool : (a b : Bool) → T (Bool·beq a b) → a ≡ b
-same-bool true true t = refl
-same-bool true false t = absurd t
-same-bool false true t = absurd t
-same-bool false false t = refl
 
 module _ (P : Program) (L : Link P) (g : Signature) where
   -- what stands at a method's spot
@@ -165,7 +156,7 @@ module _ (P : Program) (L : Link P) (g : Signature) where
                 let o : T (agrees P (method P e i .static) (seek P methodSigs (method P e i .sig) (classCount P) (parent P e))) = L .over e i (in-bundle a) (method-there a) in
                 let o′ : T (agrees P (method P e i .static) (seek P methodSigs g (classCount P) (parent P e))) = rw m at o in
                 let o″ : T (agrees P (method P e i .static) (spot d″ j″)) = rw q at o′ in
-                (e, i, z .0, same-bool (method P e i .static) (method P d″ j″ .static) o″ ∙ s)
+                (e, i, z .0, same-truth (method P e i .static) (method P d″ j″ .static) o″ ∙ s)
 
     -- what a receiver of a class below has for a method that was found from c
     pub record Chosen (d j e : ℕ) : Type 0 where

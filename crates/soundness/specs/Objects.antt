@@ -7,6 +7,7 @@ use mathlib.Core.Option.{some}
 use native.Mathlib.Omega.{arith}
 use lib.ListN.{length, drop}
 use lib.Dec.{T, eqb, ltb, eqb→eq, eqb-refl, leb→le, lt→ltb}
+use Rattle.kit.specs.Bools.{T-true}
 use Rattle.reader.specs.BuiltIns.{object, throwable, arrayStore, negativeSize}
 use Rattle.reader.specs.Descriptors.{Ref, cls, arr, Desc, dint, dref, knownDesc}
 use Rattle.reader.specs.Program.{Program, classCount, layout}
@@ -21,7 +22,7 @@ use Rattle.machine.specs.Heap.{Val, num, ref, cell, elementAt, store, allocate,
 use Rattle.machine.specs.Heap.{sizeAt as countAt}
 use Rattle.machine.specs.Machine.{throw}
 use Rattle.machine.specs.Step.{execute, load, makeArray, make, getField, putField, objectDesc}
-use Rattle.soundness.specs.Base.{is-true, All2, acons, all2-length}
+use Rattle.soundness.specs.Base.{All2, acons, all2-length}
 use Rattle.soundness.specs.Classes.{Link, below-refl, ref-refl}
 use Rattle.soundness.specs.Resolution.{FieldOk}
 use Rattle.soundness.specs.Cells.{array-again, class-again, class-cell}
@@ -122,9 +123,6 @@ module _ {P : Program} (L : Link P) {E : List Desc} (n : Now P E) where
       on′ L n (allocate (n .H) (arr D) k 1) a tt hk (keeps-more (deep n) (n .Ψ) (n .H .used) (hty (arr D) ready) (free L n))
       (go (keepSlots (keeps-more (suc (deep n)) (n .Ψ) (n .H .used) (hty (arr D) ready) (free L n)) (typed (n .flag) (n .me) (n .locals) ts)))))
     where
-      Ψ′ : HTys
-      Ψ′ = upd (n .Ψ) (n .H .used) (hty (arr D) ready)
-
       fresh : VT P (meth n) (upd (n .Ψ) (n .H .used) (hty (arr D) ready)) (deep n) (n .σ) (ref (suc (n .H .used))) (ini (arr D))
       fresh = vini {a = n .H .used} (arr D) (upd-same (n .Ψ) (n .H .used) (hty (arr D) ready)) (ref-refl P (arr D))
 
@@ -174,7 +172,7 @@ module _ {P : Program} (L : Link P) {E : List Desc} (n : Now P E) where
           go someone = someone
 
       fresh : VT P (meth n) (upd (n .Ψ) (n .H .used) (hty (cls c) (born (deep n) (at (n .o))))) (deep n) (renew (at (n .o)) (n .H .used) (n .σ)) (ref (suc (n .H .used))) (uninit (at (n .o)))
-      fresh = vraw {a = n .H .used} {k = at (n .o)} c (rw (is-true (eqb (n .o) (n .o)) (eqb-refl (n .o)))) (upd-same (n .Ψ) (n .H .used) (hty (cls c) (born (deep n) (at (n .o))))) (rw (class-new c e) (below-refl P c))
+      fresh = vraw {a = n .H .used} {k = at (n .o)} c (rw (T-true (eqb (n .o) (n .o)) (eqb-refl (n .o)))) (upd-same (n .Ψ) (n .H .used) (hty (cls c) (born (deep n) (at (n .o))))) (rw (class-new c e) (below-refl P c))
 
   -- ---- throws
   pub athrow-ok : {vs : List Val} → Sees n athrow → Popped (R n) vs (throwableTy ∷ []) (drop 1 (n .s)) → Holds athrow vs

@@ -12,11 +12,12 @@ use Rattle.reader.specs.Reading.{Res, ok, bad, andThen, pre, num2At}
 use Rattle.reader.specs.Members.{Found, none, once, twice}
 use Rattle.reader.specs.Program.{Program, Method}
 use Rattle.verifier.specs.Opcodes.{body}
-use Rattle.verifier.specs.Lines.{Line, lines, isStart}
+use Rattle.verifier.specs.Lines.{lines, isStart}
 use Rattle.verifier.specs.Types.{Ty}
 use Rattle.verifier.specs.States.{State, stack, parameterTys}
 use Rattle.verifier.specs.Frames.{Frame, frame, Written, formAt, good, judged, frameAt, stateOf, framesFrom, tableAt, framesIn, frames}
 use Rattle.verifier.specs.Walk.{frameAt as stateAt}
+use Rattle.soundness.specs.Parsing.{not-ok}
 use Rattle.soundness.specs.Base.{first-of, second-of}
 
 pub record Stands (P : Program) (M : Method) (o : ℕ) (F : State) : Type 0 where
@@ -27,13 +28,7 @@ pub data Table (P : Program) (M : Method) : List Frame → Type 0 where
   tnil : Table P M []
   tcons : {o : ℕ} {F : State} {fs : List Frame} → Stands P M o F → Table P M fs → Table P M (frame o F ∷ fs)
 
-no-ok : {A B : Type 0} (n p e : ℕ) (x : A) → _≡_ {A = Res A} (bad n p) (ok x e) → B
-no-ok n p e x q = let z : _≡_ {A = ℕ} 0 1 = cc in absurd (omega arith)
-
 module _ (P : Program) (M : Method) (t : List ℕ) where
-  abbrev all : List Line
-  all = lines P M
-
   stands : (k o : ℕ) (w : Written) → T (good P M (lines P M) t k o w) → Stands P M o (stateOf M w)
   unfolding good stateOf
   stands k o w h =
@@ -49,16 +44,16 @@ module _ (P : Program) (M : Method) (t : List ℕ) where
     where
       last : (v : Written) (z : ℕ) (b : Bool) → good P M (lines P M) t k (from + v .delta) v ≡ b → _≡_ {A = Res Written} (cond b (ok v z) (bad 14 k)) (ok w e) → Stands P M (from + w .delta) (stateOf M w)
       last v z true p h = let y : v ≡ w = cc in rw (← y) (stands k (from + v .delta) v (rw p tt))
-      last v z false p h = no-ok 14 k e w h
+      last v z false p h = not-ok 14 k e w h
 
       on : (r : Res Written) → _≡_ {A = Res Written} (andThen r λ v z. judged P M (lines P M) t k (from + v .delta) v z) (ok w e) → Stands P M (from + w .delta) (stateOf M w)
       on (ok v z) h = last v z (good P M (lines P M) t k (from + v .delta) v) refl h
-      on (bad n p) h = no-ok n p e w h
+      on (bad n p) h = not-ok n p e w h
 
       go : (b : Bool) → _≡_ {A = Res Written} (cond b (andThen (formAt P M (lines P M) t k (getD t q 0) l (q + 1)) λ v z. judged P M (lines P M) t k (from + v .delta) v z) (bad 14 k)) (ok w e)
           → Stands P M (from + w .delta) (stateOf M w)
       go true h = on (formAt P M (lines P M) t k (getD t q 0) l (q + 1)) h
-      go false h = no-ok 14 k e w h
+      go false h = not-ok 14 k e w h
 
   tabled : (n k from : ℕ) (l : List Ty) (q : ℕ) (fs : List Frame) (e : ℕ) → framesFrom P M (lines P M) t n k from l q ≡ ok fs e → Table P M fs
   unfolding framesFrom andThen pre
@@ -66,18 +61,18 @@ module _ (P : Program) (M : Method) (t : List ℕ) where
     where
       go : (b : Bool) → _≡_ {A = Res (List Frame)} (cond b (ok [] q) (bad 14 k)) (ok fs e) → Table P M fs
       go true h = let y : [] ≡ fs = cc in rw (← y) tnil
-      go false h = no-ok 14 k e fs h
+      go false h = not-ok 14 k e fs h
   tabled (suc n) k from l q fs e h = go (λ w z gs y. tabled n (suc k) (suc (from + w .delta)) (w .locals) z gs y) (frameAt P M (lines P M) t k from l q) refl h
     where
       go : ((w : Written) (z : ℕ) (gs : List Frame) (y : ℕ) → framesFrom P M (lines P M) t n (suc k) (suc (from + w .delta)) (w .locals) z ≡ ok gs y → Table P M gs)
           → (r : Res Written) → frameAt P M (lines P M) t k from l q ≡ r
           → _≡_ {A = Res (List Frame)} (andThen r λ w z. pre (frame (from + w .delta) (stateOf M w) ∷ []) (framesFrom P M (lines P M) t n (suc k) (suc (from + w .delta)) (w .locals) z)) (ok fs e) → Table P M fs
-      go ih (bad a p) q h = no-ok a p e fs h
+      go ih (bad a p) q h = not-ok a p e fs h
       go ih (ok w z) p h = on (framesFrom P M (lines P M) t n (suc k) (suc (from + w .delta)) (w .locals) z) refl h
         where
           on : (r : Res (List Frame)) → framesFrom P M (lines P M) t n (suc k) (suc (from + w .delta)) (w .locals) z ≡ r → _≡_ {A = Res (List Frame)} (pre (frame (from + w .delta) (stateOf M w) ∷ []) r) (ok fs e) → Table P M fs
           on (ok gs y) r h = let x : frame (from + w .delta) (stateOf M w) ∷ gs ≡ fs = cc in rw (← x) (tcons (framed k from l q w z p) (ih w z gs y r))
-          on (bad a b) r h = no-ok a b e fs h
+          on (bad a b) r h = not-ok a b e fs h
 
 -- what `frames` gives
 pub table-ok : (P : Program) (M : Method) (fs : List Frame) (e : ℕ) → frames P M ≡ ok fs e → Table P M fs
@@ -88,12 +83,12 @@ table-ok P M fs e h = go (body M .frames) h
     empty e q h = let y : [] ≡ fs = cc in rw (← y) tnil
 
     few : (t : List ℕ) (n a : ℕ) (b : Bool) → _≡_ {A = Res (List Frame)} (cond b (bad 14 0) (framesFrom P M (lines P M) t n 0 0 (parameterTys M) a)) (ok fs e) → Table P M fs
-    few t n a true h = no-ok 14 0 e fs h
+    few t n a true h = not-ok 14 0 e fs h
     few t n a false h = tabled P M t n 0 0 (parameterTys M) a fs e h
 
     on : (t : List ℕ) (r : Res ℕ) → _≡_ {A = Res (List Frame)} (andThen r λ n a. cond (ltb maxFrames n) (bad 14 0) (framesFrom P M (lines P M) t n 0 0 (parameterTys M) a)) (ok fs e) → Table P M fs
     on t (ok n a) h = few t n a (ltb maxFrames n) h
-    on t (bad n p) h = no-ok n p e fs h
+    on t (bad n p) h = not-ok n p e fs h
 
     go : (f : Found (List ℕ)) → framesIn P M (lines P M) f ≡ ok fs e → Table P M fs
     go none h = empty e 0 h

@@ -8,18 +8,18 @@ use native.Mathlib.Omega.{arith}
 use lib.ListN.{length}
 use lib.Dec.{T, ltb, ltb→lt}
 use borrow.Author.Tests.{eq-eqb}
-use Rattle.kit.specs.Claims.{pass}
+use Rattle.kit.specs.Bools.{T-true, T-false}
 use Rattle.reader.specs.BuiltIns.{firstClass}
 use Rattle.reader.specs.Descriptors.{Desc, dint, dref}
 use Rattle.reader.specs.Program.{Program, class, method, classCount, isConstructor}
 use Rattle.reader.specs.Link.{program}
 use Rattle.verifier.specs.Frames.{Frame}
-use Rattle.verifier.specs.Verify.{readShaped, verdictOf}
+use Rattle.verifier.specs.Verify.{readShaped}
 use Rattle.machine.specs.Heap.{Heap, heap, num}
-use Rattle.machine.specs.Machine.{Machine, heapOf, Result, next, ended, stopped}
+use Rattle.machine.specs.Machine.{Machine, heapOf, End, returned, uncaught, outOfSteps, heapFull, depthFull, stuck, Result, next, ended, stopped}
 use Rattle.machine.specs.Step.{step}
-use Rattle.machine.specs.Run.{Lent, sizesOk, runOf, Ran, turn, run, allInts, isEntry, started, ending, entered, answered, answerOf}
-use Rattle.soundness.specs.Base.{is-true, is-false, first-of, second-of, All2, anil, acons}
+use Rattle.machine.specs.Run.{endNumber, Ran, turn, run, allInts, isEntry, started, ending, entered, answered, answerOf}
+use Rattle.soundness.specs.Base.{first-of, second-of, All2, anil, acons}
 use Rattle.soundness.specs.Demand3.{EndOk, Sound}
 use Rattle.soundness.specs.Accepted.{Accepted, Judged, accepted}
 use Rattle.soundness.specs.Tables.{table-ok}
@@ -78,7 +78,7 @@ entry P i j h =
     let b = second-of (ltb j (length (class P (firstClass + i) .methods))) _ a in
     record {
       there = ltb→lt j (length (class P (firstClass + i) .methods)) (first-of (ltb j (length (class P (firstClass + i) .methods))) _ a);
-      static = is-true (method P (firstClass + i) j .static) (first-of (method P (firstClass + i) j .static) _ b);
+      static = T-true (method P (firstClass + i) j .static) (first-of (method P (firstClass + i) j .static) _ b);
       ints = second-of (method P (firstClass + i) j .static) _ b;
     }
 
@@ -92,13 +92,13 @@ start-ok {P} L acc i j e args cells n =
     (entering L 0 0 (λ j. 0) (map num args) (k .1) (rw plain (fclr dnone)) nobody (rw (e .static) (args-typed (method P c j) 0 (λ j. 0) (ints-typed args (method P c j .params) (e .ints) n)))) cnil
   where
     plain : isConstructor (method P (firstClass + i) j) ≡ false
-    plain = is-false (isConstructor (method P (firstClass + i) j)) (λ t. let z : method P (firstClass + i) j .static ≡ false = L .bound (firstClass + i) j (omega arith) (e .there) t in let y = e .static in let w : _≡_ {A = ℕ} 0 1 = cc in omega arith)
+    plain = T-false (isConstructor (method P (firstClass + i) j)) (λ t. let z : method P (firstClass + i) j .static ≡ false = L .bound (firstClass + i) j (omega arith) (e .there) t in let y = e .static in let w : _≡_ {A = ℕ} 0 1 = cc in omega arith)
 
 -- ---- the theorem
 answer : (s : List ℕ) (P : Program) → readShaped s ≡ program P → (i j : ℕ) → T (isEntry P i j) → (args : List ℕ) → length args ≡ length (method P (firstClass + i) j .params) → (cells : List ℕ) (budget : ℕ)
     → answerOf s cells i j args budget ≡ ending (run P budget 0 (started P cells i j args))
 unfolding answerOf answered entered
-answer s P e i j h args n cells budget = rw (e, is-true (isEntry P i j) h, eq-eqb (length args) (length (method P (firstClass + i) j .params)) n) refl
+answer s P e i j h args n cells budget = rw (e, T-true (isEntry P i j) h, eq-eqb (length args) (length (method P (firstClass + i) j .params)) n) refl
 
 pub sound : Sound
 sound s v P e i j h args n cells budget =
@@ -110,14 +110,14 @@ sound s v P e i j h args n cells budget =
       run-ok L acc (method P (firstClass + i) j .results) budget 0 (started P cells i j args) (start-ok L acc i j (entry P i j h) args cells n),
     )
 
--- the same of a whole call of run, with all that it is lent
-pub sound-run : (s : List ℕ) → verdictOf s ≡ pass → (P : Program) → readShaped s ≡ program P → (i j : ℕ) → T (isEntry P i j)
-    → (args : List ℕ) → length args ≡ length (method P (firstClass + i) j .params) → (t : Lent) (budget : ℕ) → T (sizesOk t budget)
-    → (R : Ran) × (runOf s t i j args budget .answer ≡ ending R) × EndOk P (method P (firstClass + i) j .results) (R .heap) (R .end)
-unfolding runOf
-sound-run s v P e i j h args n t budget b =
-    let x = sound s v P e i j h args n (t .heap) budget in
-    (x .0, rw (is-true (sizesOk t budget) b) (x .1), x .2)
+-- the numbers 1 to 5, never 6
+pub ends-well : (P : Program) (ds : List Desc) (H : Heap) (e : End) → EndOk P ds H e → endNumber e ≤ 5
+ends-well P ds H (returned vs) h = omega arith
+ends-well P ds H (uncaught c) h = omega arith
+ends-well P ds H outOfSteps h = omega arith
+ends-well P ds H heapFull h = omega arith
+ends-well P ds H depthFull h = omega arith
+ends-well P ds H stuck h = absurd h
 
 -- a run never makes more steps than its budget
 turn-count : (r : Result) (n left : ℕ) (H : Heap) (k : Machine → Ran) → ((K : Machine) → k K .count ≤ suc n + left) → turn r n H k .count ≤ n + suc left

@@ -8,6 +8,7 @@ use native.Mathlib.Omega.{arith}
 use native.Mathlib.Decide.{ℕ-discrete}
 use lib.ListN.{length, drop}
 use lib.Dec.{T, eqb, eqb→eq, eqb-refl, leb, leb→le}
+use Rattle.kit.specs.Bools.{T-true, T-false}
 use Rattle.kit.specs.Claims.{AllT}
 use Rattle.reader.specs.Descriptors.{Ref, cls, Desc, dint, dref}
 use Rattle.reader.specs.Program.{Program, Method, below}
@@ -16,7 +17,7 @@ use Rattle.verifier.specs.States.{operand, slotsFit, replaceAll, noCopy}
 use Rattle.verifier.specs.Rule.{keyClass}
 use Rattle.verifier.specs.Walk.{operandsFit}
 use Rattle.machine.specs.Heap.{Val, num, ref, fromCell, toCell}
-use Rattle.soundness.specs.Base.{is-true, is-false, All2, anil, acons}
+use Rattle.soundness.specs.Base.{All2, anil, acons}
 use Rattle.soundness.specs.Classes.{Link, ref-trans}
 
 -- An object is ready, or it is the uninitialised object k of the call with d calls below it.
@@ -39,11 +40,11 @@ abbrev pub upd : HTys → ℕ → HTy → HTys
 upd Ψ a x b = cond (eqb b a) (some x) (Ψ b)
 
 pub upd-same : (Ψ : HTys) (a : ℕ) (x : HTy) → upd Ψ a x a ≡ some x
-upd-same Ψ a x = rw (is-true (eqb a a) (eqb-refl a))
+upd-same Ψ a x = rw (T-true (eqb a a) (eqb-refl a))
 
 -- an address that is another, or that holds another thing, or held nothing
 pub upd-else : (Ψ : HTys) (a r : ℕ) (x : HTy) → (r ≡ a → ⊥) → upd Ψ a x r ≡ Ψ r
-upd-else Ψ a r x n = rw (is-false (eqb r a) (λ t. n (eqb→eq r a t)))
+upd-else Ψ a r x n = rw (T-false (eqb r a) (λ t. n (eqb→eq r a t)))
 
 pub upd-new : (Ψ : HTys) (a r : ℕ) (x y : HTy) → Ψ a ≡ none → Ψ r ≡ some y → upd Ψ a x r ≡ some y
 upd-new Ψ a r x y e p = upd-else Ψ a r x (λ q. let z : _≡_ {A = ℕ} 0 1 = cc in omega arith) ∙ p

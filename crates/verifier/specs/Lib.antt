@@ -14,7 +14,10 @@ pub mod TypeLaws
 pub mod Slots
 pub mod SlotLaws
 pub mod FrameRows
+pub mod InstructionWords
 pub mod Walk
+pub mod Forms
+pub mod FormLaws
 pub mod FrameLaws
 pub mod Verify
 pub mod Computing

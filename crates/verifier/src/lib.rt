@@ -1,5 +1,7 @@
 // Phases C and D. The definitions are in specs/.
+pub mod forms;
 pub mod frames;
+pub mod instruction;
 pub mod opcodes;
 pub mod slots;
 pub mod types;

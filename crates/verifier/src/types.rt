@@ -4,9 +4,10 @@ ghost use Prim.Native.Nat.{_+_, _*_, _<_, _/_, _%_};
 ghost use lib.Dec.{eqb};
 ghost use Rattle.reader.specs.Descriptors.{cls, arr};
 ghost use Rattle.reader.specs.Program.{class, below};
-ghost use Rattle.verifier.specs.Types.{top, int, null, ini, uninit, at, self, isInt, isNull, isTop, isReference, isArray, isUninit, elementTy, descFits, fitsRef, fits};
+ghost use Rattle.verifier.specs.Types.{top, int, null, ini, uninit, at, self, isInt, isNull, isTop, isReference, isArray, isUninit, elementTy, tyOf, descFits, fitsRef, fits};
 ghost use Rattle.verifier.specs.Rule.{keyOf};
 ghost use Rattle.verifier.specs.TypeWords.{nest, baseOf, typeOf};
+ghost use Rattle.verifier.specs.InstructionWords.{refOf, descOf, elementOf};
 ghost use Rattle.verifier.specs.Ancestry.{lineage};
 
 // A type as the view of a word: kind + 8 * depth + 64 * number. The number is a class's, an array's base or a new's offset; the depth is
@@ -183,6 +184,37 @@ impl Ty {
             return self.inner();
         }
         Ty::top()
+    }
+
+    // The array with this base and depth.
+    pub fn as_array(self) -> Ty
+        ensures { λ r. ⌜ typeOf (r .word) ≡ ini (arr (elementOf (self .word))) ⌝ }
+    {
+        Ty {
+            word: self.word / 8 * 8 + Ty::ARRAY,
+        }
+    }
+
+    // An array, or the class with this number.
+    pub fn as_reference(self) -> Ty
+        ensures { λ r. ⌜ typeOf (r .word) ≡ ini (refOf (self .word)) ⌝ }
+    {
+        if self.word % 8 == Ty::ARRAY {
+            return self;
+        }
+        Ty {
+            word: self.word / 64 * 64 + Ty::CLASS,
+        }
+    }
+
+    // A type that is written down: int, or one of those.
+    pub fn described(self) -> Ty
+        ensures { λ r. ⌜ typeOf (r .word) ≡ tyOf (descOf (self .word)) ⌝ }
+    {
+        if self.word % 8 == Ty::INT {
+            return self;
+        }
+        self.as_reference()
     }
 }
 
