@@ -5,3 +5,4 @@ pub mod Step
 pub mod Run
 pub mod Computing
 pub mod Laws
+pub mod IntegerLaws

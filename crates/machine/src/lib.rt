@@ -1,1 +1,2 @@
 // The plain machine. The definitions are in specs/.
+pub mod integers;

@@ -10,7 +10,7 @@ use borrow.Author.Tests.{ne-eqb, ltb-false}
 use Rattle.reader.specs.Limits.{maxStackLimit, maxLocalsLimit, maxCode, maxTableEntries}
 use Rattle.reader.specs.Reading.{Res, ok, bad, andThen, pre, many, u2At, u4At, num2At, num4At, skipAt, shortAt, part}
 use Rattle.reader.specs.Answers.{res, no-ok, same-bad}
-use Rattle.reader.specs.Ends.{Holds, holds-of, then-holds, any-holds, cond-holds, IsU2, num2-holds, skip-holds}
+use Rattle.reader.specs.Ends.{Holds, holds-of, then-holds, cond-holds, IsU2, num2-holds, skip-holds}
 use Rattle.reader.specs.declared.items.Got.{Got}
 use Rattle.reader.specs.Pool.{Constant, text}
 use Rattle.reader.specs.Members.{Found, none, once, twice, another, Handler, Body, Member, innersAt, codeAt, handlerAt, tableAt, bodyAt}
@@ -176,17 +176,19 @@ module _ (s : List ℕ) (pool : List Constant) (e p : ℕ) where
   pub body-via : (r : Res (Found Body)) (q : ℕ) → r ≡ bodyBy s e p pool q → r ≡ bodyAt s pool e p q
   body-via r q h = h ∙ sym (body-by q)
 
--- a short number is at most what it may be
-short-most : (s : List ℕ) (e n p most q : ℕ) → Holds (λ v a. v ≤ most) (shortAt s e n p most q)
+-- a short number is at most what it may be, and ends in time
+short-most : (s : List ℕ) (e n p most q : ℕ) → Holds (λ v a. (v ≤ most) × (a ≤ e)) (shortAt s e n p most q)
 unfolding shortAt
-short-most s e n p most q = any-holds (λ v a. v ≤ most) (num2At s e n p q) _ (λ v a. by v a (ltb most v) refl)
+short-most s e n p most q =
+    then-holds (IsU2 s e q) (λ v a. (v ≤ most) × (a ≤ e)) (num2At s e n p q) _ (num2-holds s e n p q) (λ v a h. by v a (h .2) (ltb most v) refl)
   where
-    by : (v a : ℕ) (t : Bool) → ltb most v ≡ t → Holds (λ w z. w ≤ most) (cond t (bad 4 q) (ok v a))
-    by v a true h = tt
-    by v a false h = ltb-false most v h
+    by : (v a : ℕ) → a ≤ e → (t : Bool) → ltb most v ≡ t → Holds (λ w z. (w ≤ most) × (z ≤ e)) (cond t (bad 4 q) (ok v a))
+    by v a l true h = tt
+    by v a l false h = (ltb-false most v h, l)
 
-pub short-val : (s : List ℕ) (e n p most q : ℕ) (a : Got) → res a ≡ shortAt s e n p most q → not (a .ok) ≡ false → a .val ≤ most
-short-val s e n p most q a h t = holds-of (λ v z. v ≤ most) (shortAt s e n p most q) (a .val) (a .at) (short-most s e n p most q) (no-ok _ a (a .val) h t)
+pub short-val : (s : List ℕ) (e n p most q : ℕ) (a : Got) → res a ≡ shortAt s e n p most q → not (a .ok) ≡ false → (a .val ≤ most) × (a .at ≤ e)
+short-val s e n p most q a h t =
+    holds-of (λ v z. (v ≤ most) × (z ≤ e)) (shortAt s e n p most q) (a .val) (a .at) (short-most s e n p most q) (no-ok _ a (a .val) h t)
 
 -- one more: another one is more
 module _ {A : Type 0} (k : ℕ) (v : A) (j : ℕ) (w : A) where

@@ -16,6 +16,8 @@ pub mod Members
 pub mod Attributes
 pub mod Signatures
 pub mod Contents
+pub mod MemberEnds
+pub mod Rows
 pub mod Bundle
 pub mod BuiltIns
 pub mod Program

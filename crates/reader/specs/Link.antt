@@ -75,12 +75,13 @@ pub data Read : Type 0 where
   refused : Refusal → Read
   program : Program → Read
 
-unfoldable pub linkedAs : Program → Verdict → Read
-linkedAs P pass = program P
-linkedAs P (fail r) = refused r
+-- the program where a phase passes it
+unfoldable pub orRefused : Program → Verdict → Read
+orRefused P pass = program P
+orRefused P (fail r) = refused r
 
 abbrev pub link : List ClassFile → Read
-link fs = let P = programOf fs in linkedAs P (linked fs P)
+link fs = let P = programOf fs in orRefused P (linked fs P)
 
 unfoldable pub readAs : Res (List ClassFile) → Read
 readAs (ok fs e) = link fs

@@ -4,3 +4,4 @@ pub mod items;
 pub mod members;
 pub mod names;
 pub mod pool;
+pub mod rows;

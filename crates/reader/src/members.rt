@@ -412,8 +412,8 @@ fn attribute_loop(s: &[u8], tags: &[u8], method: bool, n: usize, from: usize) ->
     }
 }
 
-// A member's attributes: what Code there is.
-fn attributes(s: &[u8], tags: &[u8], method: bool, q: usize) -> Coded
+// A member's or a class's attributes: what Code there is.
+pub fn attributes(s: &[u8], tags: &[u8], method: bool, q: usize) -> Coded
     requires { ⌜ length (now s) ≤ 65536 ⌝ }
     ensures { λ r. ⌜ coded (now (s .entry)) r ≡ attributesAt (now (s .entry)) (poolIn (now (s .entry)) (now (tags .entry))) method q ⌝ }
 {

@@ -11,11 +11,11 @@ use Rattle.reader.specs.Reading.{Res, ok, bad}
 use Rattle.reader.specs.BuiltIns.{firstClass}
 use Rattle.reader.specs.Bundle.{ClassFile, bundleAt}
 use Rattle.reader.specs.Program.{Program, Class, Method, noClass, noMethod, class, method, programOf}
-use Rattle.reader.specs.Link.{uniqueClass, superClaims, chainClaims, memberClaims, linked, Read, refused, program, linkedAs, readAs, readBundle}
+use Rattle.reader.specs.Link.{uniqueClass, superClaims, chainClaims, memberClaims, linked, Read, refused, program, orRefused, readAs, readBundle}
 use Rattle.verifier.specs.Shape.{shapeClaims}
 use Rattle.verifier.specs.Frames.{Frame, frames}
 use Rattle.verifier.specs.Walk.{walkClaims}
-use Rattle.verifier.specs.Verify.{overMethods, overClasses, bundleClasses, shape, walked, typing, shapedAs, shapeRead, readShaped, typeRead, verdictOf}
+use Rattle.verifier.specs.Verify.{overMethods, overClasses, bundleClasses, shape, walked, typing, shapeRead, readShaped, typeRead, verdictOf}
 
 -- what linking has shown of the class files fs
 pub record Linked (fs : List ClassFile) : Type 0 where
@@ -93,10 +93,10 @@ no-read : {A : Type 0} (r : Refusal) (P : Program) → refused r ≡ program P �
 no-read r P e = let z : _≡_ {A = ℕ} 0 1 = cc in absurd (omega arith)
 
 reading : (s : List ℕ) (P : Program) → readBundle s ≡ program P → WasRead s P
-unfolding readBundle readAs linkedAs
+unfolding readBundle readAs orRefused
 reading s P e = go (bundleAt s) refl e
   where
-    on : (fs : List ClassFile) (end : ℕ) → bundleAt s ≡ ok fs end → (v : Verdict) → linked fs (programOf fs) ≡ v → linkedAs (programOf fs) v ≡ program P → WasRead s P
+    on : (fs : List ClassFile) (end : ℕ) → bundleAt s ≡ ok fs end → (v : Verdict) → linked fs (programOf fs) ≡ v → orRefused (programOf fs) v ≡ program P → WasRead s P
     on fs end p pass q e = record { files = fs; end = end; read = p; is = (cc); linked = linked-all fs q }
     on fs end p (fail r) q e = no-read r P e
 
@@ -106,10 +106,10 @@ reading s P e = go (bundleAt s) refl e
 
 -- phase C
 shaping : (s : List ℕ) (P : Program) → readShaped s ≡ program P → (readBundle s ≡ program P) × (shape P ≡ pass)
-unfolding readShaped shapeRead shapedAs
+unfolding readShaped shapeRead orRefused
 shaping s P e = go (readBundle s) refl e
   where
-    on : (Q : Program) → readBundle s ≡ program Q → (v : Verdict) → shape Q ≡ v → shapedAs Q v ≡ program P → (readBundle s ≡ program P) × (shape P ≡ pass)
+    on : (Q : Program) → readBundle s ≡ program Q → (v : Verdict) → shape Q ≡ v → orRefused Q v ≡ program P → (readBundle s ≡ program P) × (shape P ≡ pass)
     on Q p pass q e = let z : Q ≡ P = cc in (rw z at p, rw z at q)
     on Q p (fail r) q e = no-read r P e
 

@@ -7,9 +7,9 @@ use Rattle.verifier.specs.Rule.{constructing, calling, rule}
 use Rattle.verifier.specs.Shape.{bodyClaims, formClaims, allStarts, referenceClaims, catchClass, rangeOk, catchOk, tableClaims, shapeClaims}
 use Rattle.verifier.specs.States.{slotsFit, stateFits, replaceAll, noCopy, padded, startState}
 use Rattle.verifier.specs.Types.{refFits, descFits, fits}
-use Rattle.verifier.specs.Verify.{overMethods, overClasses, shape, walked, typing, shapedAs, shapeRead, readShaped, typeRead, verdictOf, verifyOf}
+use Rattle.verifier.specs.Verify.{overMethods, overClasses, shape, walked, typing, shapeRead, readShaped, typeRead, verdictOf, verifyOf}
 use Rattle.verifier.specs.Walk.{frameAt as frameAt·Walk, operandsFit, handlersClaims, branchClaims, local, walk, walkClaims}
 
 unfoldable pub verifying : Unit {0}
-unfolding shortAt taggedAt infoAt chopped oneOnStack appended fullAt longForm formAt noTop good judged frameAt stateOf framesFrom tableAt frames linesFrom lines isStart isNewAt newClassAt rows rowIn rowOf instruction sizeAt ownMethod fieldIn methodIn resolve constructing calling rule bodyClaims formClaims allStarts referenceClaims catchClass rangeOk catchOk tableClaims shapeClaims slotsFit stateFits replaceAll noCopy padded startState refFits descFits fits overMethods overClasses shape walked typing shapedAs shapeRead readShaped typeRead verdictOf verifyOf frameAt·Walk operandsFit handlersClaims branchClaims local walk walkClaims
+unfolding shortAt taggedAt infoAt chopped oneOnStack appended fullAt longForm formAt noTop good judged frameAt stateOf framesFrom tableAt frames linesFrom lines isStart isNewAt newClassAt rows rowIn rowOf instruction sizeAt ownMethod fieldIn methodIn resolve constructing calling rule bodyClaims formClaims allStarts referenceClaims catchClass rangeOk catchOk tableClaims shapeClaims slotsFit stateFits replaceAll noCopy padded startState refFits descFits fits overMethods overClasses shape walked typing shapeRead readShaped typeRead verdictOf verifyOf frameAt·Walk operandsFit handlersClaims branchClaims local walk walkClaims
 verifying = tt

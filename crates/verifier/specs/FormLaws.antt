@@ -1,5 +1,5 @@
 -- The rules by which `search` finds a form's claims and the state that it leaves. Assumes nothing.
-use Prim.Native.Nat.{ℕ, suc, _+_, _-_, _≤_}
+use Prim.Native.Nat.{ℕ, _+_, _-_, _≤_}
 use mathlib.Core.Path.{_≡_, sym, ap, _∙_}
 use mathlib.Core.List.{List, [], _∷_, _++_}
 use native.Mathlib.Omega.{arith}
@@ -63,5 +63,5 @@ module _ (g : Gives) (k : ℕ) (t : List ℕ) (h r : Held) where
   leave-put u w e m = m ∙ ap (λ (us : List Ty). turned k us (held t h)) (sym (ap givesOf e))
 
 module _ (h r : Held) (d : ℕ) where
-  pub kept-moved : Moved h r d → d ≤ suc (h .depth) → Kept h r
+  pub kept-moved : Moved h r d → d ≤ 3 + h .depth → Kept h r
   kept-moved m l = record { at = m .at; locals = m .locals; depth = omega arith }

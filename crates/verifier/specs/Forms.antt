@@ -1,5 +1,5 @@
 -- What a form takes and leaves, where its rule depends on nothing else; and the rules of each group as the code follows them.
-use Prim.Native.Nat.{ℕ, suc, _/_, _%_, _≤_}
+use Prim.Native.Nat.{ℕ, _+_, _/_, _%_, _≤_}
 use mathlib.Core.Path.{_≡_, refl, sym, _∙_}
 use borrow.Author.Tests.{eq-eqb, ne-eqb}
 use mathlib.Core.List.{List, [], _∷_, _++_}
@@ -48,7 +48,7 @@ turned k us (state g l s) = state g l (us ++ drop k s)
 pub record Kept (h r : Held) : Type 0 where
   pub at : r .at ≡ h .at
   pub locals : r .locals ≡ h .locals
-  pub depth : r .depth ≤ suc (h .depth)
+  pub depth : r .depth ≤ 3 + h .depth
 
 abbrev pub formRule : List Ty → List Ty → State → Rule
 formRule ts us (state g l s) = rule′ ts [] (state g l (us ++ drop (length ts) s)) l

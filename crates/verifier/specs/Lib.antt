@@ -18,6 +18,8 @@ pub mod InstructionWords
 pub mod Walk
 pub mod Forms
 pub mod FormLaws
+pub mod Groups
+pub mod GroupLaws
 pub mod FrameLaws
 pub mod Verify
 pub mod Computing

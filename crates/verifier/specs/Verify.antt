@@ -10,7 +10,7 @@ use Rattle.reader.specs.Verdicts.{Fault, fault, Refusal, inMethod, inBundle, Ve
 use Rattle.reader.specs.Reading.{Res, ok, bad}
 use Rattle.reader.specs.BuiltIns.{firstClass}
 use Rattle.reader.specs.Program.{Program, Class, Method}
-use Rattle.reader.specs.Link.{Read, refused, program, readBundle}
+use Rattle.reader.specs.Link.{Read, refused, program, orRefused, readBundle}
 use Rattle.verifier.specs.Shape.{shapeClaims}
 use Rattle.verifier.specs.Frames.{Frame, frames}
 use Rattle.verifier.specs.Walk.{walkClaims}
@@ -41,13 +41,9 @@ unfoldable pub typing : Program → Verdict
 typing P = overClasses (λ M. walked P M (frames P M)) 0 (bundleClasses P)
 
 -- phases A to C: the program, or the verdict 1 .. 13
-unfoldable pub shapedAs : Program → Verdict → Read
-shapedAs P pass = program P
-shapedAs P (fail r) = refused r
-
 unfoldable pub shapeRead : Read → Read
 shapeRead (refused r) = refused r
-shapeRead (program P) = shapedAs P (shape P)
+shapeRead (program P) = orRefused P (shape P)
 
 unfoldable pub readShaped : List ℕ → Read
 readShaped s = shapeRead (readBundle s)

@@ -4,4 +4,5 @@ pub mod frames;
 pub mod instruction;
 pub mod opcodes;
 pub mod slots;
+pub mod steps;
 pub mod types;

@@ -14,7 +14,7 @@ returns c = search reads depth 12
 
 mul-skip : tie.Need-mul-skip
 unfolding tableBy
-mul-skip c = omega (arith, short-val _ _ 7 _ 32 _ (c .before .before .before .short .result) (c .before .before .before .short .ensures) (c .before .if1 .left))
+mul-skip c = let h = short-val _ _ 7 _ 32 _ (c .before .before .before .short .result) (c .before .before .before .short .ensures) (c .before .if1 .left) in omega arith
 
 skip-requires : tie.Need-skip-requires
 skip-requires c κs = search needs

@@ -1,0 +1,61 @@
+-- The rules of the groups whose forms look at the state, as the code follows them; and that they are the meaning's.
+use Prim.Native.Nat.{ℕ}
+use mathlib.Core.Path.{_≡_, refl}
+use mathlib.Core.List.{List, [], _∷_}
+use lib.ListN.{getD, drop, set}
+use Rattle.kit.specs.Claims.{Claim, claim}
+use Rattle.reader.specs.Program.{Program, Method}
+use Rattle.verifier.specs.Types.{top, int, isInt, isReference, isArray, elementTy, objectArray}
+use Rattle.verifier.specs.States.{State, state, stack, operand}
+use Rattle.verifier.specs.Rule.{Rule, rule′, rule}
+use Rattle.verifier.specs.Walk.{operandClaims}
+use Rattle.verifier.specs.InstructionWords.{localOf, stackOf}
+use Rattle.verifier.specs.declared.instruction.Local.{Local}
+use Rattle.verifier.specs.declared.instruction.Local.the-variants.{Iload, Aload, Istore, Astore, Iinc}
+use Rattle.verifier.specs.declared.instruction.Stack.{Stack}
+use Rattle.verifier.specs.declared.instruction.Stack.the-variants.{Dup, Dupx1, Swap, Arraylength, Aaload}
+
+abbrev pub localRule : Local → State → Rule
+localRule (Iload j) (state g l s) = rule′ [] (claim 16 (isInt (getD l j top)) ∷ []) (state g l (int ∷ s)) l
+localRule (Aload j) (state g l s) = rule′ [] (claim 16 (isReference (getD l j top)) ∷ []) (state g l (getD l j top ∷ s)) l
+localRule (Istore j) (state g l s) = rule′ (int ∷ []) [] (state g (set l j int) (drop 1 s)) l
+localRule (Astore j) (state g l s) =
+    rule′ (top ∷ []) (claim 16 (isReference (operand 0 s)) ∷ []) (state g (set l j (operand 0 s)) (drop 1 s)) l
+localRule (Iinc j k) (state g l s) = rule′ [] (claim 16 (isInt (getD l j top)) ∷ []) (state g l s) l
+
+abbrev pub stackRule : Stack → State → Rule
+stackRule Dup (state g l s) = rule′ (top ∷ []) [] (state g l (operand 0 s ∷ s)) l
+stackRule Dupx1 (state g l s) = rule′ (top ∷ top ∷ []) [] (state g l (operand 0 s ∷ operand 1 s ∷ operand 0 s ∷ drop 2 s)) l
+stackRule Swap (state g l s) = rule′ (top ∷ top ∷ []) [] (state g l (operand 1 s ∷ operand 0 s ∷ drop 2 s)) l
+stackRule Arraylength (state g l s) = rule′ (top ∷ []) (claim 16 (isArray (operand 0 s)) ∷ []) (state g l (int ∷ drop 1 s)) l
+stackRule Aaload (state g l s) = rule′ (int ∷ objectArray ∷ []) [] (state g l (elementTy (operand 1 s) ∷ drop 2 s)) l
+
+module _ (P : Program) (M : Method) (o : ℕ) where
+  pub local-rule : (i : Local) (S : State) → rule P M o (localOf i) S ≡ localRule i S
+  unfolding rule
+  local-rule (Iload j) (state g l s) = refl
+  local-rule (Aload j) (state g l s) = refl
+  local-rule (Istore j) (state g l s) = refl
+  local-rule (Astore j) (state g l s) = refl
+  local-rule (Iinc j k) (state g l s) = refl
+
+  pub stack-rule : (i : Stack) (S : State) → rule P M o (stackOf i) S ≡ stackRule i S
+  unfolding rule
+  stack-rule Dup (state g l s) = refl
+  stack-rule Dupx1 (state g l s) = refl
+  stack-rule Swap (state g l s) = refl
+  stack-rule Arraylength (state g l s) = refl
+  stack-rule Aaload (state g l s) = refl
+
+-- ---- kept shut, for proofs that know the form
+unfoldable pub localClaims : Program → ℕ → Local → State → List (Claim ℕ)
+localClaims P most i S = operandClaims P most (stack S) (localRule i S)
+
+unfoldable pub localAfter : Local → State → State
+localAfter i S = localRule i S .after
+
+unfoldable pub stackClaims : Program → ℕ → Stack → State → List (Claim ℕ)
+stackClaims P most i S = operandClaims P most (stack S) (stackRule i S)
+
+unfoldable pub stackAfter : Stack → State → State
+stackAfter i S = stackRule i S .after
