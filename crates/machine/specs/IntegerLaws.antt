@@ -3,7 +3,9 @@
 use Prim.Native.Nat.{ℕ, zero, suc, _+_, _-_, _*_, _/_, _%_, _^_, _<_, _≤_, min, max}
 use mathlib.Core.Path.{_≡_, refl, sym, ap, _∙_}
 use mathlib.Core.Bool.{cond, not}
+use mathlib.Core.List.{[], _∷_}
 use mathlib.Core.Logic.{⊎-elim}
+use lib.ListN.{List·getD-eq-default}
 use native.Mathlib.Nat.{lt-of-le-of-lt, mul-le-mul-left, mul-lt-mul-of-pos-right, le-of-lt, div-le-self, mod-le, pow-suc}
 use native.Mathlib.Omega.{arith}
 use borrow.Author.Tests.{lt-ltb, le-ltb, le-leb, lt-leb, eq-eqb, ne-eqb}
@@ -15,7 +17,7 @@ use lib.Pow.{pow-pos}
 use mir.Syntax.{w32}
 use mir.Val.{ofZ, toZ}
 use Rattle.kit.specs.Pick.{side}
-use Rattle.verifier.specs.Instruction.{add, shr, and, or, xor, quotient, remainder}
+use Rattle.verifier.specs.Instruction.{add, sub, mul, shl, shr, ushr, and, or, xor, quotient, remainder, eq, ne, lt, ge, gt, le}
 use Rattle.verifier.specs.InstructionWords.{opOf, divisionOf}
 use Rattle.verifier.specs.Opcodes.{testOf}
 use Rattle.machine.specs.Integers.{negated, compute, divided, less, holds, negative}
@@ -169,28 +171,29 @@ module _ (a b : ℕ) (h : a < 2 ^ 32) where
   xor-digits = few-digits (λ c. c) differ xor-step 32 a b h
 
 -- ---- numbers of operations and tests: the first one's for any that is not listed
+past-four : (k : ℕ) → 0 < k → (k ≡ 1 → ⊥) → (k ≡ 2 → ⊥) → (k ≡ 3 → ⊥) → (k ≡ 4 → ⊥) → 4 < k
+past-four k h h1 h2 h3 h4 = omega arith
+
+past-eight : (k : ℕ) → 4 < k → (k ≡ 5 → ⊥) → (k ≡ 6 → ⊥) → (k ≡ 7 → ⊥) → (k ≡ 8 → ⊥) → 9 ≤ k
+past-eight k h h5 h6 h7 h8 = omega arith
+
+zero-of : {k : ℕ} → k ≤ 0 → k ≡ 0
+zero-of h = omega arith
+
 pub op-rest : (k r a b : ℕ) → (k ≡ 1 → ⊥) → (k ≡ 2 → ⊥) → (k ≡ 3 → ⊥) → (k ≡ 4 → ⊥) → (k ≡ 5 → ⊥) → (k ≡ 6 → ⊥) → (k ≡ 7 → ⊥) → (k ≡ 8 → ⊥)
     → r ≡ compute add a b → r ≡ compute (opOf k) a b
-op-rest zero r a b h1 h2 h3 h4 h5 h6 h7 h8 e = e
-op-rest (suc zero) r a b h1 h2 h3 h4 h5 h6 h7 h8 e = absurd (h1 refl)
-op-rest (suc (suc zero)) r a b h1 h2 h3 h4 h5 h6 h7 h8 e = absurd (h2 refl)
-op-rest (suc (suc (suc zero))) r a b h1 h2 h3 h4 h5 h6 h7 h8 e = absurd (h3 refl)
-op-rest (suc (suc (suc (suc zero)))) r a b h1 h2 h3 h4 h5 h6 h7 h8 e = absurd (h4 refl)
-op-rest (suc (suc (suc (suc (suc zero))))) r a b h1 h2 h3 h4 h5 h6 h7 h8 e = absurd (h5 refl)
-op-rest (suc (suc (suc (suc (suc (suc zero)))))) r a b h1 h2 h3 h4 h5 h6 h7 h8 e = absurd (h6 refl)
-op-rest (suc (suc (suc (suc (suc (suc (suc zero))))))) r a b h1 h2 h3 h4 h5 h6 h7 h8 e = absurd (h7 refl)
-op-rest (suc (suc (suc (suc (suc (suc (suc (suc zero)))))))) r a b h1 h2 h3 h4 h5 h6 h7 h8 e = absurd (h8 refl)
-op-rest (suc (suc (suc (suc (suc (suc (suc (suc (suc k))))))))) r a b h1 h2 h3 h4 h5 h6 h7 h8 e = e
+op-rest k r a b h1 h2 h3 h4 h5 h6 h7 h8 e =
+    let q : opOf k ≡ add =
+    ⊎-elim (λ h. List·getD-eq-default (add ∷ sub ∷ mul ∷ shl ∷ shr ∷ ushr ∷ and ∷ or ∷ xor ∷ []) add {n = k} (past-eight k (past-four k h h1 h2 h3 h4) h5 h6 h7 h8))
+    (λ h. ap opOf (zero-of h)) (side 0 k) in
+    rw q e
 
 pub test-rest : (k a b : ℕ) → (k ≡ 1 → ⊥) → (k ≡ 2 → ⊥) → (k ≡ 3 → ⊥) → (k ≡ 4 → ⊥) → (k ≡ 5 → ⊥) → eqb a b ≡ holds (testOf k) a b
 unfolding holds
-test-rest zero a b h1 h2 h3 h4 h5 = refl
-test-rest (suc zero) a b h1 h2 h3 h4 h5 = absurd (h1 refl)
-test-rest (suc (suc zero)) a b h1 h2 h3 h4 h5 = absurd (h2 refl)
-test-rest (suc (suc (suc zero))) a b h1 h2 h3 h4 h5 = absurd (h3 refl)
-test-rest (suc (suc (suc (suc zero)))) a b h1 h2 h3 h4 h5 = absurd (h4 refl)
-test-rest (suc (suc (suc (suc (suc zero))))) a b h1 h2 h3 h4 h5 = absurd (h5 refl)
-test-rest (suc (suc (suc (suc (suc (suc k)))))) a b h1 h2 h3 h4 h5 = refl
+test-rest k a b h1 h2 h3 h4 h5 =
+    let q : testOf k ≡ eq =
+    ⊎-elim (λ h. List·getD-eq-default (eq ∷ ne ∷ lt ∷ ge ∷ gt ∷ le ∷ []) eq {n = k} (omega arith)) (λ h. ap testOf (zero-of h)) (side 0 k) in
+    rw q
 
 module _ (k r a b : ℕ) where
   pub quotient-at : k ≡ 0 → r ≡ divided quotient a b → r ≡ divided (divisionOf k) a b

@@ -6,3 +6,6 @@ pub mod Run
 pub mod Computing
 pub mod Laws
 pub mod IntegerLaws
+pub mod HeapLaws
+pub mod ValueLaws
+pub mod Objects

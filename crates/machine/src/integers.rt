@@ -1,4 +1,4 @@
-// 32-bit integers: two's complement bits in a u32, so that sums, products and shifts wrap by themselves.
+// 32-bit integers as two's complement bits in a u32: those from 2 ^ 31 on read as negative.
 ghost use mathlib.Core.Path.{_≡_};
 ghost use mathlib.Core.Bool.{not};
 ghost use Prim.Native.Nat.{_<_, _≤_, _^_};

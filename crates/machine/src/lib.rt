@@ -1,2 +1,5 @@
 // The plain machine. The definitions are in specs/.
+pub mod heap;
 pub mod integers;
+pub mod objects;
+pub mod values;

@@ -7,11 +7,13 @@ use native.Mathlib.Omega.{arith}
 use lib.ListN.{length}
 use lib.Dec.{ltb, leb, eqb}
 use borrow.Author.Tests.{ne-eqb, ltb-false}
+use Rattle.kit.specs.Lists.{eqList}
 use Rattle.reader.specs.Limits.{maxStackLimit, maxLocalsLimit, maxCode, maxTableEntries}
 use Rattle.reader.specs.Reading.{Res, ok, bad, andThen, pre, many, u2At, u4At, num2At, num4At, skipAt, shortAt, part}
 use Rattle.reader.specs.Answers.{res, no-ok, same-bad}
 use Rattle.reader.specs.Ends.{Holds, holds-of, then-holds, cond-holds, IsU2, num2-holds, skip-holds}
 use Rattle.reader.specs.declared.items.Got.{Got}
+use Rattle.reader.specs.Names.{StackMapTable}
 use Rattle.reader.specs.Pool.{Constant, text}
 use Rattle.reader.specs.Members.{Found, none, once, twice, another, Handler, Body, Member, innersAt, codeAt, handlerAt, tableAt, bodyAt}
 
@@ -48,6 +50,12 @@ memberOf s pool q body = record {
   descriptor = text pool (u2At s (q + 4));
   body = body;
 }
+
+-- an attribute inside Code, named by entry i: its length at a, and its content
+unfoldable pub contentBy : List ℕ → List Constant → ℕ → ℕ → ℕ → ℕ → Res (Found (List ℕ))
+contentBy s pool e p i a =
+    andThen (num4At s e 7 p a) λ n b.
+    andThen (skipAt e 7 p n b) λ c d. ok (cond (eqList (text pool i) StackMapTable) (once (part s c n)) none) d
 
 -- ---- Code's parts as the code reads them: each by its length alone
 module _ (s : List ℕ) (e p : ℕ) where

@@ -1,10 +1,10 @@
 -- What the code's answers about attributes and members stand for.
 use Prim.Native.Nat.{ℕ, _-_, _<_}
-use mathlib.Core.Path.{_≡_, refl, sym, ap, _∙_}
+use mathlib.Core.Path.{_≡_, refl, ap, _∙_}
 use mathlib.Core.List.{List}
-use mathlib.Core.Bool.{true, false, not}
+use mathlib.Core.Bool.{false, not}
 use Rattle.reader.specs.Reading.{Res, ok, sumAt, part}
-use Rattle.reader.specs.Answers.{resAs, no-ok, as-ok, as-bad, reads}
+use Rattle.reader.specs.Answers.{resAs, no-ok, as-ok, reads}
 use Rattle.reader.specs.Loops.{sum-more}
 use Rattle.reader.specs.Pool.{Constant}
 use Rattle.reader.specs.Members.{Found, Body, Member, another}
@@ -41,14 +41,6 @@ pub record CodeTallies (x y r : Code) : Type 0 where
 -- an answer that is handed on with the value it stands for
 pub as-done : {A : Type 0} (a : Got) (v w : A) → not (a .ok) ≡ false → v ≡ w → resAs a v ≡ ok w (a .at)
 as-done {A} a v w t p = no-ok (resAs a v) a v refl t ∙ ap (λ (y : A). ok y (a .at)) p
-
--- a reading's last part, whose answer is told
-module _ {A : Type 0} (a : Got) (v : A) (x : Res A) (h : resAs a v ≡ x) where
-  pub is-done : not (a .ok) ≡ false → ok v (a .at) ≡ x
-  is-done t = sym (no-ok x a v h t)
-
-  pub is-fault : (w : A) → not (a .ok) ≡ true → resAs a w ≡ x
-  is-fault w t = as-bad a w t ∙ sym (as-bad a v t) ∙ h
 
 pub ruleset notes = (reads, as-ok, as-done)
 

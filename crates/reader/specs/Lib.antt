@@ -17,8 +17,12 @@ pub mod Attributes
 pub mod Signatures
 pub mod Contents
 pub mod MemberEnds
-pub mod Rows
 pub mod Bundle
+pub mod Blocks
+pub mod BlockWords
+pub mod Opening
+pub mod Sections
+pub mod Classes
 pub mod BuiltIns
 pub mod Program
 pub mod Link

@@ -4,17 +4,16 @@ use mathlib.Core.Path.{_≡_, refl, sym, subst}
 use mathlib.Core.List.{List}
 use mathlib.Core.Bool.{Bool, true, false, cond, not}
 use lib.ListN.{length}
-use lib.Dec.{ltb, eqb}
+use lib.Dec.{eqb}
 use borrow.Author.Tests.{eqb-true}
 use Rattle.kit.specs.Lists.{eqList}
 use Rattle.reader.specs.Limits.{maxStackLimit, maxLocalsLimit}
 use Rattle.reader.specs.Reading.{Res, ok, bad, sumAt, num2At, skipAt, shortAt, u2, u4}
 use Rattle.reader.specs.Answers.{resAs, no-ok}
-use Rattle.reader.specs.Ends.{Ends, ends-of, then-ends, kept-ends, cond-ends, many-ends, num2-ends, skip-ends}
+use Rattle.reader.specs.Ends.{Ends, ends-of, then-ends, kept-ends, cond-ends, num2-ends, skip-ends}
 use Rattle.reader.specs.Names.{Code}
 use Rattle.reader.specs.Pool.{Constant, text, utf8IndexAt}
 use Rattle.reader.specs.Members.{Found, none, another, Body, Member, codeAt, tableAt, innersAt, bodyAt, attributeAt, attributesAt, accessAt, nameAt, descriptorAt, memberAt}
-use Rattle.reader.specs.Bundle.{membersAt}
 use Rattle.reader.specs.declared.items.Got.{Got}
 
 sum-ends : {A B : Type 0} (n : ℕ) (f : ℕ → Res A) (g : B → A → B) → ((q : ℕ) → Ends n (f q)) → (k : ℕ) (b : B) (q : ℕ) → q ≤ n → Ends n (sumAt f g k b q)
@@ -48,7 +47,7 @@ module _ (s : List ℕ) (pool : List Constant) where
       kept-ends (length s) (num2At s (length s) 2 q q) _ (num2-ends s (length s) 2 q q)
       (λ n a l. sum-ends (length s) (attributeAt s pool method) another (attribute-ends method) n none a l)
 
-  pub member-ends : (method : Bool) (q : ℕ) → Ends (length s) (memberAt s pool method q)
+  member-ends : (method : Bool) (q : ℕ) → Ends (length s) (memberAt s pool method q)
   unfolding memberAt
   member-ends method q =
       let L = length s in
@@ -56,20 +55,6 @@ module _ (s : List ℕ) (pool : List Constant) where
       (λ name b. then-ends L (descriptorAt s pool method access name b) _
       (λ descriptor c. kept-ends L (attributesAt s pool method c) _ (attributes-ends method c) (λ body e l. l))))
 
-  pub members-ends : (method : Bool) (most q : ℕ) → Ends (length s) (membersAt s pool method most q)
-  unfolding membersAt shortAt
-  members-ends method most q =
-      let L = length s in
-      kept-ends L (shortAt s L 2 q most q) _
-      (kept-ends L (num2At s L 2 q q) _ (num2-ends s L 2 q q) (λ v a l. cond-ends L (ltb most v) _ _ tt l))
-      (λ n a l. many-ends L (memberAt s pool method) (member-ends method) n a l)
-
-  -- the code's answers
-  pub attributes-end : (method : Bool) (q : ℕ) (a : Got) (v : Found Body) → resAs a v ≡ attributesAt s pool method q → not (a .ok) ≡ false → a .at ≤ length s
-  attributes-end method q a v h t = ends-of (length s) (attributesAt s pool method q) v (a .at) (attributes-ends method q) (no-ok _ a v h t)
-
+  -- the code's answer
   pub member-end : (method : Bool) (q : ℕ) (a : Got) (m : Member) → resAs a m ≡ memberAt s pool method q → not (a .ok) ≡ false → a .at ≤ length s
   member-end method q a m h t = ends-of (length s) (memberAt s pool method q) m (a .at) (member-ends method q) (no-ok _ a m h t)
-
-  pub members-end : (method : Bool) (most q : ℕ) (a : Got) (v : List Member) → resAs a v ≡ membersAt s pool method most q → not (a .ok) ≡ false → a .at ≤ length s
-  members-end method most q a v h t = ends-of (length s) (membersAt s pool method most q) v (a .at) (members-ends method most q) (no-ok _ a v h t)

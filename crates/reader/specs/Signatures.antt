@@ -25,6 +25,10 @@ use Rattle.reader.specs.declared.descriptors.Counts.{Counts}
 unfoldable pub tooMany : ℕ → ℕ → Bool
 tooMany access n = ltb maxParameters (n + cond (eqb access 9) 0 1)
 
+-- `<init>` has no result
+unfoldable pub resultOk : Text → ℕ → Bool
+resultOk name n = cond (isInit name) (eqb n 0) true
+
 -- the descriptor t at q, by its form; it ends at a
 unfoldable pub fieldBy : Text → ℕ → ℕ → Res Text
 fieldBy t q a = andThen (fieldShape t q) λ v e. ok t a
@@ -32,7 +36,7 @@ fieldBy t q a = andThen (fieldShape t q) λ v e. ok t a
 unfoldable pub methodBy : ℕ → Text → Text → ℕ → ℕ → Res Text
 methodBy access name t q a =
     andThen (methodShape t q) λ m e.
-    cond (tooMany access (m .params)) (bad 4 q) (cond (isInit name) (cond (eqb (m .results) 0) (ok t a) (bad 7 q)) (ok t a))
+    cond (tooMany access (m .params)) (bad 4 q) (cond (resultOk name (m .results)) (ok t a) (bad 7 q))
 
 unfoldable pub accessBy : List ℕ → Bool → ℕ → Res ℕ
 accessBy s method q =
@@ -61,11 +65,20 @@ module _ (s : List ℕ) (pool : List Constant) where
   unfolding fieldBy
   field-by t q a = seen-then (λ d. 0) (fieldTypeAt (λ x. 0) t q) (fieldShape t q) _ _ (field-shape (λ x. 0) t q) (λ v e. refl)
 
+  result-by : (name : Text) (n : ℕ) (x y : Res Text) → cond (isInit name) (cond (eqb n 0) x y) x ≡ cond (resultOk name n) x y
+  unfolding resultOk
+  result-by name n x y = by (isInit name)
+    where
+      by : (b : Bool) → cond b (cond (eqb n 0) x y) x ≡ cond (cond b (eqb n 0) true) x y
+      by true = refl
+      by false = refl
+
   method-by : (access : ℕ) (name t : Text) (q a : ℕ)
       → (andThen (methodTypeAt (λ x. 0) t q) λ m e. methodTypeOk s pool access name q a t m) ≡ methodBy access name t q a
   unfolding methodBy methodTypeOk slots tooMany
   method-by access name t q a =
-      seen-then (λ m. arity (length (m .params)) (length (m .results))) (methodTypeAt (λ x. 0) t q) (methodShape t q) _ _ (method-shape (λ x. 0) t q) (λ v e. refl)
+      seen-then (λ m. arity (length (m .params)) (length (m .results))) (methodTypeAt (λ x. 0) t q) (methodShape t q) _ _ (method-shape (λ x. 0) t q)
+      (λ m e. ap (cond (ltb maxParameters (length (m .params) + cond (eqb access 9) 0 1)) (bad 4 q)) (result-by name (length (m .results)) (ok t a) (bad 7 q)))
 
   descriptor-by : (method : Bool) (access : ℕ) (name : Text) (q : ℕ) → descriptorAt s pool method access name q ≡ descriptorBy s pool method access name q
   unfolding descriptorAt descriptorBy

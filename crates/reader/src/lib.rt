@@ -1,7 +1,7 @@
 // Phases A and B: bytes to a program. The definitions are in specs/.
+pub mod bundle;
 pub mod descriptors;
 pub mod items;
 pub mod members;
 pub mod names;
 pub mod pool;
-pub mod rows;

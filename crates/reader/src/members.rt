@@ -18,11 +18,11 @@ ghost use Rattle.reader.specs.Counted.{countsRes};
 ghost use Rattle.reader.specs.Pool.{text};
 ghost use Rattle.reader.specs.Table.{poolIn};
 ghost use Rattle.reader.specs.Members.{once, none, another, innerAt, innersAt, bodyAt, attributeAt, attributesAt, nameAt, descriptorAt, memberAt};
-ghost use Rattle.reader.specs.Attributes.{codeBy, tableBy, restBy};
-ghost use Rattle.reader.specs.Signatures.{accessBy, tooMany, fieldBy, methodBy};
+ghost use Rattle.reader.specs.Attributes.{contentBy, codeBy, tableBy, restBy};
+ghost use Rattle.reader.specs.Signatures.{accessBy, tooMany, resultOk, fieldBy, methodBy};
 ghost use Rattle.reader.specs.Contents.{memberRes, contentIn, noted, Tallies, coded, CodeTallies};
 
-// An attribute's content: how often it stands, 2 for more than once, where, and how long.
+// An attribute's content: how often it stands, 2 for more than once, where, and how long; in words, as a table keeps them.
 pub struct Content {
     pub count: u32,
     pub from: u32,
@@ -44,7 +44,7 @@ fn no_content() -> Content
     }
 }
 
-// Both together.
+// What stands in both stands more than once.
 fn tally(x: Content, y: Content) -> Content
     ensures { λ r. ⌜ Tallies x y r ⌝ }
 {
@@ -90,6 +90,31 @@ fn frames(s: &[u8], tags: &[u8], i: usize, a: usize, n: usize) -> Content
     }
 }
 
+// The length at a, and the content, of an attribute inside Code that entry i names.
+fn content_at(s: &[u8], tags: &[u8], e: usize, p: usize, i: usize, a: usize) -> Noted
+    requires { ⌜ e ≤ 65536 ⌝ }
+    ensures { λ r. ⌜ noted (now (s .entry)) r ≡ contentBy (now (s .entry)) (poolIn (now (s .entry)) (now (tags .entry))) e p i a ⌝ }
+{
+    let n = items::num4(s, e, 7, p, a);
+    if !n.ok {
+        return Noted {
+            got: n,
+            what: no_content(),
+        };
+    }
+    let c = items::skip(e, 7, p, n.val, n.at);
+    if !c.ok {
+        return Noted {
+            got: c,
+            what: no_content(),
+        };
+    }
+    Noted {
+        got: c,
+        what: frames(s, tags, i, c.val, n.val),
+    }
+}
+
 // One attribute inside a Code that ends at e and whose attribute stands at p.
 fn inner(s: &[u8], tags: &[u8], e: usize, p: usize, q: usize) -> Noted
     requires { ⌜ e ≤ 65536 ⌝ }
@@ -103,32 +128,14 @@ fn inner(s: &[u8], tags: &[u8], e: usize, p: usize, q: usize) -> Noted
         };
     }
     if pool::is_utf8(s, tags, i.val) {
-        let n = items::num4(s, e, 7, p, i.at);
-        if !n.ok {
-            return Noted {
-                got: n,
-                what: no_content(),
-            };
-        }
-        let c = items::skip(e, 7, p, n.val, n.at);
-        if !c.ok {
-            return Noted {
-                got: c,
-                what: no_content(),
-            };
-        }
-        return Noted {
-            got: c,
-            what: frames(s, tags, i.val, c.val, n.val),
-        };
+        return content_at(s, tags, e, p, i.val, i.at);
     }
-    let g = Got {
-        ok: false,
-        val: 5,
-        at: q,
-    };
     Noted {
-        got: g,
+        got: Got {
+            ok: false,
+            val: 5,
+            at: q,
+        },
         what: no_content(),
     }
 }
@@ -151,13 +158,12 @@ fn inner_loop(s: &[u8], tags: &[u8], e: usize, p: usize, n: usize, from: usize) 
         q = got.at;
         left -= 1;
     }
-    let end = Got {
-        ok: true,
-        val: 0,
-        at: q,
-    };
     Noted {
-        got: end,
+        got: Got {
+            ok: true,
+            val: 0,
+            at: q,
+        },
         what: sum,
     }
 }
@@ -252,7 +258,7 @@ fn no_code() -> Code
     }
 }
 
-// Both together.
+// The same of Code.
 fn code_tally(x: Code, y: Code) -> Code
     ensures { λ r. ⌜ CodeTallies x y r ⌝ }
 {
@@ -287,28 +293,26 @@ fn rest(s: &[u8], tags: &[u8], e: usize, p: usize, q: usize, c: usize) -> Coded
     let what = f.what;
     if !got.ok {
         return Coded {
-            got: got,
+            got,
             code: no_code(),
         };
     }
     if got.at == e {
-        let code = Code {
-            count: 1,
-            start: q as u32,
-            frames: what,
-        };
         return Coded {
-            got: got,
-            code: code,
+            got,
+            code: Code {
+                count: 1,
+                start: q as u32,
+                frames: what,
+            },
         };
     }
-    let g = Got {
-        ok: false,
-        val: 7,
-        at: p,
-    };
     Coded {
-        got: g,
+        got: Got {
+            ok: false,
+            val: 7,
+            at: p,
+        },
         code: no_code(),
     }
 }
@@ -401,13 +405,12 @@ fn attribute_loop(s: &[u8], tags: &[u8], method: bool, n: usize, from: usize) ->
         q = got.at;
         left -= 1;
     }
-    let end = Got {
-        ok: true,
-        val: 0,
-        at: q,
-    };
     Coded {
-        got: end,
+        got: Got {
+            ok: true,
+            val: 0,
+            at: q,
+        },
         code: sum,
     }
 }
@@ -427,7 +430,7 @@ pub fn attributes(s: &[u8], tags: &[u8], method: bool, q: usize) -> Coded
     attribute_loop(s, tags, method, n.val, n.at)
 }
 
-// Entry i's text as what is asked of it.
+// Entry i's text, put to the tests of names and descriptors.
 fn init_at(s: &[u8], tags: &[u8], i: usize) -> bool
     ensures { λ r. ⌜ r ≡ isInit (text (poolIn (now (s .entry)) (now (tags .entry))) i) ⌝ }
 {
@@ -556,6 +559,16 @@ fn too_many(access: usize, n: usize) -> bool
     15 < n
 }
 
+// `<init>`, if that is what entry k is, has no result.
+fn result_ok(s: &[u8], tags: &[u8], k: usize, n: usize) -> bool
+    ensures { λ r. ⌜ r ≡ resultOk (text (poolIn (now (s .entry)) (now (tags .entry))) k) n ⌝ }
+{
+    if init_at(s, tags, k) {
+        return n == 0;
+    }
+    true
+}
+
 // Entry i as a field's descriptor; its index stood at q and ended at e.
 fn field_descriptor(s: &[u8], tags: &[u8], i: usize, q: usize, e: usize) -> Got
     ensures { λ r. ⌜ resAs r (text (poolIn (now (s .entry)) (now (tags .entry))) (r .val)) ≡ fieldBy (text (poolIn (now (s .entry)) (now (tags .entry))) i) q e ⌝ }
@@ -571,7 +584,7 @@ fn field_descriptor(s: &[u8], tags: &[u8], i: usize, q: usize, e: usize) -> Got
     }
 }
 
-// The same of a method, whose name is entry k: `<init>` has no result.
+// The same of a method, whose name is entry k.
 fn method_descriptor(
     s: &[u8],
     tags: &[u8],
@@ -598,24 +611,17 @@ fn method_descriptor(
             at: q,
         };
     }
-    if init_at(s, tags, k) {
-        if m.results == 0 {
-            return Got {
-                ok: true,
-                val: i,
-                at: e,
-            };
-        }
+    if result_ok(s, tags, k, m.results) {
         return Got {
-            ok: false,
-            val: 7,
-            at: q,
+            ok: true,
+            val: i,
+            at: e,
         };
     }
     Got {
-        ok: true,
-        val: i,
-        at: e,
+        ok: false,
+        val: 7,
+        at: q,
     }
 }
 

@@ -1,24 +1,31 @@
 -- The rules by which `search` finds the claims of a group's forms and the states that they leave. Assumes nothing.
-use Prim.Native.Nat.{ℕ, suc, _+_, _-_}
+use Rattle.verifier.specs.Rule.{keyOf, returnsInt, returnsRef, returnsVoid, returned}
+use Prim.Native.Nat.{ℕ, suc, _+_, _-_, _%_}
 use mathlib.Core.Path.{_≡_, refl, sym, ap, _∙_}
-use mathlib.Core.Bool.{Bool}
+use mathlib.Core.Bool.{Bool, true, false, cond, not}
 use mathlib.Core.List.{List, [], _∷_, _++_}
 use native.Mathlib.Omega.{arith}
-use lib.Dec.{leb}
+use lib.Dec.{eqb, leb}
 use lib.ListN.{length, drop, set}
 use Rattle.kit.specs.Pick.{same}
-use Rattle.kit.specs.Claims.{Claim, claim, Ruling, is, verdict, then, verdict-append, nothing}
+use Rattle.kit.specs.Claims.{Claim, claim, Ruling, is, verdict, then, verdict-append, nothing, one}
+use Rattle.reader.specs.Descriptors.{Desc, dint, dref}
 use Rattle.reader.specs.Program.{Program}
-use Rattle.verifier.specs.Types.{Ty, isInt, isReference, isArray, elementTy}
-use Rattle.verifier.specs.States.{State, state, stack, operand}
+use Rattle.verifier.specs.Types.{Ty, top, at, uninit, tyOf, isInt, isReference, isArray, elementTy}
+use Rattle.verifier.specs.States.{State, state, stack, noCopy}
 use Rattle.verifier.specs.Walk.{operandsFit}
-use Rattle.verifier.specs.Slots.{stackAt, held, Moved, Outside, dropped, stored}
+use Rattle.verifier.specs.Slots.{stackAt, held, Moved, Outside, dropped, stored, localsSwapped, pushed}
 use Rattle.verifier.specs.SlotLaws.{length-stack, drop-stack, cut-held, outside-two}
 use Rattle.verifier.specs.Forms.{asked, turned, Kept, formClaims, one-type, two-types, three-types, base-int, base-object}
-use Rattle.verifier.specs.Groups.{localRule, localClaims, localAfter, stackRule, stackClaims, stackAfter}
+use Rattle.verifier.specs.Groups.{localRule, localClaims, localAfter, stackRule, stackClaims, stackAfter, resultsOf, leaveRule, leaveClaims, newRule, newClaims, newAfter}
+use Rattle.verifier.specs.InstructionWords.{refOf, descOf}
 use Rattle.verifier.specs.declared.slots.Held.{Held}
 use Rattle.verifier.specs.declared.instruction.Local.{Local}
 use Rattle.verifier.specs.declared.instruction.Stack.{Stack}
+use Rattle.verifier.specs.declared.instruction.Leave.{Leave}
+use Rattle.verifier.specs.declared.forms.Gives.{Gives}
+use Rattle.verifier.specs.declared.forms.Gives.the-variants.{Nothing, Value}
+use Rattle.verifier.specs.declared.types.Ty as code
 
 -- what is asked in all: operands, the form's own, room for a stack of n
 unfoldable pub claimsOf : Program → ℕ → List Ty → List Ty → List (Claim ℕ) → ℕ → List (Claim ℕ)
@@ -53,6 +60,17 @@ module _ (P : Program) (most : ℕ) (S : State) (r : ℕ) where
   unfolding claimsOf stackClaims
   by-stack i i′ e h = rw e h
 
+  pub by-leave : (ds : List Desc) (i i′ : Leave) → i ≡ i′
+      → is r ≡ verdict (claimsOf P most (stack S) (leaveRule ds i′ S .takes) (leaveRule ds i′ S .asks) (length (stack (leaveRule ds i′ S .after))))
+      → is r ≡ verdict (leaveClaims P most ds i S)
+  unfolding claimsOf leaveClaims
+  by-leave ds i i′ e h = rw e h
+
+  pub by-new : (o : ℕ) → is r ≡ verdict (claimsOf P most (stack S) (newRule o S .takes) (newRule o S .asks) (length (stack (newRule o S .after))))
+      → is r ≡ verdict (newClaims P most o S)
+  unfolding claimsOf newClaims
+  by-new o h = h
+
 -- the stack's length after
 module _ (t : List ℕ) (x d : ℕ) where
   rest : (k : ℕ) → length (drop k (stackAt t x d)) ≡ d - k
@@ -60,6 +78,9 @@ module _ (t : List ℕ) (x d : ℕ) where
 
   pub len-same : 0 + (d - 0) ≡ length (stackAt t x d)
   len-same = omega (arith, length-stack t x d)
+
+  pub len-none : 0 + (d - d) ≡ 0
+  len-none = omega arith
 
   pub len-push : 1 + (d - 0) ≡ suc (length (stackAt t x d))
   len-push = omega (arith, length-stack t x d)
@@ -90,9 +111,62 @@ module _ (q : Bool) (u v : Ty) where
   pub array-via : q ≡ isArray u → u ≡ v → q ≡ isArray v
   array-via h e = h ∙ ap isArray e
 
-pub ruleset own = (claim-via, int-via, reference-via, array-via)
+-- no copy of the object that new makes at o
+pub copy-via : (q : Bool) (u : Ty) (o : ℕ) (s : List Ty) → q ≡ noCopy (keyOf u) s → u ≡ uninit (at o) → q ≡ noCopy (at o) s
+copy-via q u o s h e = h ∙ ap (λ (y : Ty). noCopy (keyOf y) s) e
 
-pub ruleset ways = (by-local, by-stack, own-claims, one-type, two-types, three-types, base-int, base-object, len-same, len-push, len-drop, len-turn, len-two, len-three, nothing, same)
+-- what a descriptor returns, by what a match found
+int-desc : (w : ℕ) → eqb (w % 8) 1 ≡ returnsInt (descOf w ∷ [])
+int-desc w = go (eqb (w % 8) 1)
+  where
+    go : (t : Bool) → t ≡ returnsInt (cond t dint (dref (refOf w)) ∷ [])
+    go true = refl
+    go false = refl
+
+reference-desc : (w : ℕ) → not (eqb (w % 8) 1) ≡ returnsRef (descOf w ∷ [])
+reference-desc w = go (eqb (w % 8) 1)
+  where
+    go : (t : Bool) → not t ≡ returnsRef (cond t dint (dref (refOf w)) ∷ [])
+    go true = refl
+    go false = refl
+
+module _ (g : Gives) (e : g ≡ Nothing) where
+  pub int-none : false ≡ returnsInt (resultsOf g)
+  int-none = rw e
+
+  pub reference-none : false ≡ returnsRef (resultsOf g)
+  reference-none = rw e
+
+  pub void-none : true ≡ returnsVoid (resultsOf g)
+  void-none = rw e
+
+  pub returned-none : (v : Ty) → v ≡ top → v ≡ returned (resultsOf g)
+  returned-none v h = rw e h
+
+module _ (g : Gives) (w : code.Ty) (e : g ≡ Value w) where
+  pub int-value : eqb (w .word % 8) 1 ≡ returnsInt (resultsOf g)
+  int-value = rw e (int-desc (w .word))
+
+  pub reference-value : not (eqb (w .word % 8) 1) ≡ returnsRef (resultsOf g)
+  reference-value = rw e (reference-desc (w .word))
+
+  pub void-value : false ≡ returnsVoid (resultsOf g)
+  void-value = rw e
+
+  pub returned-value : (v : Ty) → v ≡ tyOf (descOf (w .word)) → v ≡ returned (resultsOf g)
+  returned-value v h = rw e h
+
+pub two-claims : (r a b n m : ℕ) (p q : Bool) → is r ≡ then (is a) (is b) → is a ≡ verdict (claim n p ∷ []) → is b ≡ verdict (claim m q ∷ [])
+    → is r ≡ verdict (claim n p ∷ claim m q ∷ [])
+two-claims r a b n m p q h k l = one r (claim m q ∷ []) a b n p h k l
+
+-- a kind of result that a call told
+pub kinds-via : (r : ℕ) (q b c : Bool) → is r ≡ verdict (claim 16 q ∷ claim 18 c ∷ []) → q ≡ b → is r ≡ verdict (claim 16 b ∷ claim 18 c ∷ [])
+kinds-via r q b c h e = h ∙ ap (λ (x : Bool). verdict (claim 16 x ∷ claim 18 c ∷ [])) e
+
+pub ruleset own = (copy-via, claim-via, int-via, reference-via, array-via)
+
+pub ruleset ways = (by-local, by-stack, by-leave, by-new, kinds-via, len-none, own-claims, one-type, two-types, three-types, base-int, base-object, len-same, len-push, len-drop, len-turn, len-two, len-three, nothing, same)
 
 -- parts of the answer in order
 pub three-parts : (r a b m n : ℕ) (u v : Ruling ℕ) → is r ≡ then (is a) (is b) → is b ≡ then (is m) (is n) → is a ≡ u → is n ≡ v → is r ≡ then u (then (is m) v)
@@ -154,3 +228,11 @@ pub store-held : (t u : List ℕ) (h r : Held) (j : ℕ) (v : Ty) → held u h �
 store-held t u h r j v e m = cut-held u h r 1 m ∙ ap (dropped 1) e
 
 pub ruleset afters = (local-after, stack-after, top-to, set-to, two-to, three-to, element-via, same)
+
+-- after new: the old copies in the locals count as top
+pub new-held : (t u v : List ℕ) (h r : Held) (k : Ty) (o : ℕ) (w : Ty) → held u h ≡ localsSwapped (keyOf k) w (held t h) → held v r ≡ pushed 0 k (held u h)
+    → k ≡ uninit (at o) → w ≡ top → held v r ≡ newAfter o (held t h)
+unfolding newAfter
+new-held t u v h r k o w a b e f =
+    b ∙ ap (pushed 0 k) a ∙ ap (λ (y : Ty). pushed 0 y (localsSwapped (keyOf y) w (held t h))) e
+    ∙ ap (λ (y : Ty). pushed 0 (uninit (at o)) (localsSwapped (at o) y (held t h))) f

@@ -4,16 +4,22 @@ use mathlib.Core.Path.{_≡_, refl}
 use mathlib.Core.List.{List, [], _∷_}
 use lib.ListN.{getD, drop, set}
 use Rattle.kit.specs.Claims.{Claim, claim}
+use Rattle.reader.specs.Descriptors.{Desc}
 use Rattle.reader.specs.Program.{Program, Method}
-use Rattle.verifier.specs.Types.{top, int, isInt, isReference, isArray, elementTy, objectArray}
-use Rattle.verifier.specs.States.{State, state, stack, operand}
-use Rattle.verifier.specs.Rule.{Rule, rule′, rule}
+use Rattle.verifier.specs.Instruction.{new}
+use Rattle.verifier.specs.Types.{top, int, isInt, isReference, isArray, elementTy, objectArray, at, uninit, throwableTy}
+use Rattle.verifier.specs.States.{State, state, stack, operand, noCopy, replaceAll}
+use Rattle.verifier.specs.Rule.{Rule, rule′, rule, leaving, returnsInt, returnsRef, returnsVoid, returned}
 use Rattle.verifier.specs.Walk.{operandClaims}
-use Rattle.verifier.specs.InstructionWords.{localOf, stackOf}
+use Rattle.verifier.specs.InstructionWords.{descOf, localOf, stackOf, leaveOf}
 use Rattle.verifier.specs.declared.instruction.Local.{Local}
 use Rattle.verifier.specs.declared.instruction.Local.the-variants.{Iload, Aload, Istore, Astore, Iinc}
 use Rattle.verifier.specs.declared.instruction.Stack.{Stack}
 use Rattle.verifier.specs.declared.instruction.Stack.the-variants.{Dup, Dupx1, Swap, Arraylength, Aaload}
+use Rattle.verifier.specs.declared.instruction.Leave.{Leave}
+use Rattle.verifier.specs.declared.instruction.Leave.the-variants.{Athrow, Ireturn, Areturn, Return}
+use Rattle.verifier.specs.declared.forms.Gives.{Gives}
+use Rattle.verifier.specs.declared.forms.Gives.the-variants.{Nothing, Value}
 
 abbrev pub localRule : Local → State → Rule
 localRule (Iload j) (state g l s) = rule′ [] (claim 16 (isInt (getD l j top)) ∷ []) (state g l (int ∷ s)) l
@@ -30,7 +36,33 @@ stackRule Swap (state g l s) = rule′ (top ∷ top ∷ []) [] (state g l (opera
 stackRule Arraylength (state g l s) = rule′ (top ∷ []) (claim 16 (isArray (operand 0 s)) ∷ []) (state g l (int ∷ drop 1 s)) l
 stackRule Aaload (state g l s) = rule′ (int ∷ objectArray ∷ []) [] (state g l (elementTy (operand 1 s) ∷ drop 2 s)) l
 
+-- what a method's descriptor returns
+abbrev pub resultsOf : Gives → List Desc
+resultsOf Nothing = []
+resultsOf (Value w) = descOf (w .word) ∷ []
+
+abbrev pub leaveRule : List Desc → Leave → State → Rule
+leaveRule ds Athrow (state g l s) = rule′ (throwableTy ∷ []) [] (state g l []) l
+leaveRule ds Ireturn S = leaving (int ∷ []) (returnsInt ds) S
+leaveRule ds Areturn S = leaving (returned ds ∷ []) (returnsRef ds) S
+leaveRule ds Return S = leaving [] (returnsVoid ds) S
+
+abbrev pub newRule : ℕ → State → Rule
+newRule o (state g l s) =
+    rule′ [] (claim 18 (noCopy (at o) s) ∷ []) (state g (replaceAll (at o) top l) (uninit (at o) ∷ s)) l
+
 module _ (P : Program) (M : Method) (o : ℕ) where
+  pub leave-rule : (i : Leave) (S : State) → rule P M o (leaveOf i) S ≡ leaveRule (M .results) i S
+  unfolding rule
+  leave-rule Athrow (state g l s) = refl
+  leave-rule Ireturn (state g l s) = refl
+  leave-rule Areturn (state g l s) = refl
+  leave-rule Return (state g l s) = refl
+
+  pub new-rule : (c : ℕ) (S : State) → rule P M o (new c) S ≡ newRule o S
+  unfolding rule
+  new-rule c (state g l s) = refl
+
   pub local-rule : (i : Local) (S : State) → rule P M o (localOf i) S ≡ localRule i S
   unfolding rule
   local-rule (Iload j) (state g l s) = refl
@@ -59,3 +91,12 @@ stackClaims P most i S = operandClaims P most (stack S) (stackRule i S)
 
 unfoldable pub stackAfter : Stack → State → State
 stackAfter i S = stackRule i S .after
+
+unfoldable pub leaveClaims : Program → ℕ → List Desc → Leave → State → List (Claim ℕ)
+leaveClaims P most ds i S = operandClaims P most (stack S) (leaveRule ds i S)
+
+unfoldable pub newClaims : Program → ℕ → ℕ → State → List (Claim ℕ)
+newClaims P most o S = operandClaims P most (stack S) (newRule o S)
+
+unfoldable pub newAfter : ℕ → State → State
+newAfter o S = newRule o S .after

@@ -20,6 +20,7 @@ pub mod Forms
 pub mod FormLaws
 pub mod Groups
 pub mod GroupLaws
+pub mod CallLaws
 pub mod FrameLaws
 pub mod Verify
 pub mod Computing

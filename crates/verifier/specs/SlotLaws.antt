@@ -86,12 +86,12 @@ drop-stack (suc k) t x (suc d) =
     let e : d - k ≡ suc d - suc k = omega arith in
     drop-stack k t x d ∙ ap (stackAt t x) e
 
-stack-cons : (t : List ℕ) (x d : ℕ) → 0 < d → stackAt t x d ≡ slot t (x + (d - 1)) ∷ stackAt t x (d - 1)
+pub stack-cons : (t : List ℕ) (x d : ℕ) → 0 < d → stackAt t x d ≡ slot t (x + (d - 1)) ∷ stackAt t x (d - 1)
 unfolding stackAt
 stack-cons t x zero h = absurd (not-suc-le-zero h)
 stack-cons t x (suc d) h = simp sub-one
 
-stack-none : (t : List ℕ) (x d : ℕ) → d ≤ 0 → stackAt t x d ≡ []
+pub stack-none : (t : List ℕ) (x d : ℕ) → d ≤ 0 → stackAt t x d ≡ []
 unfolding stackAt
 stack-none t x zero h = refl
 stack-none t x (suc d) h = absurd (not-suc-le-zero h)

@@ -1,4 +1,5 @@
 // Phases C and D. The definitions are in specs/.
+pub mod calls;
 pub mod forms;
 pub mod frames;
 pub mod instruction;

@@ -1,17 +1,19 @@
 // One instruction on a state in lent words: what is asked of it, and the state that it leaves, group by group.
 ghost use mathlib.Core.Path.{_≡_};
+ghost use mathlib.Core.Bool.{not};
 ghost use mathlib.Core.List.{[], _∷_};
 ghost use Prim.Native.Nat.{_+_, _-_, _≤_};
 ghost use lib.Dec.{leb};
 ghost use lib.ListN.{length, getD};
 ghost use Rattle.kit.specs.Claims.{is, verdict, then, claim};
-ghost use Rattle.verifier.specs.Types.{top, isInt, isReference, isArray};
-ghost use Rattle.verifier.specs.States.{operand};
+ghost use Rattle.verifier.specs.Types.{top, at, isInt, isReference, isArray};
+ghost use Rattle.verifier.specs.States.{operand, noCopy};
+ghost use Rattle.verifier.specs.Rule.{returnsInt, returnsRef, returnsVoid, returned};
 ghost use Rattle.verifier.specs.TypeWords.{typeOf};
 ghost use Rattle.verifier.specs.Ancestry.{lineage};
 ghost use Rattle.verifier.specs.Slots.{operandsOf, localsOf, held, Placed, Roomy, Outside, pushed, dropped, stored, Moved};
 ghost use Rattle.verifier.specs.Forms.{takesOf, plainTakes, plainGives, branchTakes, asked, formClaims, turned, Kept};
-ghost use Rattle.verifier.specs.Groups.{localClaims, localAfter, stackClaims, stackAfter};
+ghost use Rattle.verifier.specs.Groups.{localClaims, localAfter, stackClaims, stackAfter, resultsOf, leaveClaims, newClaims, newAfter};
 use crate::forms::Gives;
 use crate::forms::Takes;
 use crate::forms::ask_form;
@@ -22,6 +24,7 @@ use crate::forms::leave_form;
 use crate::forms::plain_gives;
 use crate::forms::plain_takes;
 use crate::instruction::Branch;
+use crate::instruction::Leave;
 use crate::instruction::Local;
 use crate::instruction::Plain;
 use crate::instruction::Stack;
@@ -30,8 +33,10 @@ use crate::slots::cut;
 use crate::slots::first;
 use crate::slots::local;
 use crate::slots::must;
+use crate::slots::no_copy;
 use crate::slots::peek;
 use crate::slots::put;
+use crate::slots::replace_locals;
 use crate::slots::room;
 use crate::slots::set_local;
 use crate::types::Kin;
@@ -258,4 +263,115 @@ pub fn leave_stack(t: &mut [u8], h: Held, i: Stack) -> Held
         Stack::Arraylength => put(t, h, 1, Ty::int()),
         Stack::Aaload => put(t, h, 2, b.element()),
     }
+}
+
+// ---- Leaving a method; back is what its descriptor returns.
+
+fn returns_int(back: Gives) -> bool
+    ensures { λ r. ⌜ r ≡ returnsInt (resultsOf back) ⌝ }
+{
+    match back {
+        Gives::Nothing => false,
+        Gives::Value(w) => w.word % 8 == Ty::INT,
+    }
+}
+
+fn returns_reference(back: Gives) -> bool
+    ensures { λ r. ⌜ r ≡ returnsRef (resultsOf back) ⌝ }
+{
+    match back {
+        Gives::Nothing => false,
+        Gives::Value(w) => w.word % 8 != Ty::INT,
+    }
+}
+
+fn returns_void(back: Gives) -> bool
+    ensures { λ r. ⌜ r ≡ returnsVoid (resultsOf back) ⌝ }
+{
+    match back {
+        Gives::Nothing => true,
+        Gives::Value(_) => false,
+    }
+}
+
+fn returned_type(back: Gives) -> Ty
+    ensures { λ r. ⌜ typeOf (r .word) ≡ returned (resultsOf back) ⌝ }
+{
+    match back {
+        Gives::Nothing => Ty::top(),
+        Gives::Value(w) => w.described(),
+    }
+}
+
+// The descriptor is of that kind, and no constructor leaves with the flag set.
+fn may_leave(kind: bool, flag: bool) -> u32
+    ensures { λ r. ⌜ is r ≡ verdict (claim 16 kind ∷ claim 18 (not flag) ∷ []) ⌝ }
+{
+    first(must(kind, 16), must(!flag, 18))
+}
+
+pub fn ask_leave(t: &[u8], kin: Kin, h: Held, i: Leave, back: Gives, most: usize) -> u32
+    requires { ⌜ Placed (now t) h ⌝ }
+    ensures { λ r. ⌜ is r ≡ verdict (leaveClaims (lineage (now (t .entry)) (kin .at) (kin .count)) most (resultsOf back) i (held (now (t .entry)) h)) ⌝ }
+{
+    let d = h.depth;
+    match i {
+        Leave::Athrow => ask_with(t, kin, h, Takes::One(Ty::class(1)), 0, d, 0, most),
+        Leave::Ireturn => ask_with(
+            t,
+            kin,
+            h,
+            Takes::One(Ty::int()),
+            may_leave(returns_int(back), h.flag),
+            d,
+            0,
+            most,
+        ),
+        Leave::Areturn => ask_with(
+            t,
+            kin,
+            h,
+            Takes::One(returned_type(back)),
+            may_leave(returns_reference(back), h.flag),
+            d,
+            0,
+            most,
+        ),
+        Leave::Return => ask_with(
+            t,
+            kin,
+            h,
+            Takes::Zero,
+            may_leave(returns_void(back), h.flag),
+            d,
+            0,
+            most,
+        ),
+    }
+}
+
+// ---- new at the offset o.
+
+fn no_old_copy(t: &[u8], h: Held, o: u16) -> u32
+    requires { ⌜ Placed (now t) h ⌝ }
+    ensures { λ r. ⌜ is r ≡ verdict (claim 18 (noCopy (at o) (operandsOf (now (t .entry)) h)) ∷ []) ⌝ }
+{
+    let key = Ty::uninit(o);
+    must(no_copy(t, h, key), 18)
+}
+
+pub fn ask_new(t: &[u8], kin: Kin, h: Held, o: u16, most: usize) -> u32
+    requires { ⌜ Placed (now t) h ⌝ }
+    ensures { λ r. ⌜ is r ≡ verdict (newClaims (lineage (now (t .entry)) (kin .at) (kin .count)) most o (held (now (t .entry)) h)) ⌝ }
+{
+    ask_with(t, kin, h, Takes::Zero, no_old_copy(t, h, o), 0, 1, most)
+}
+
+pub fn leave_new(t: &mut [u8], h: Held, o: u16) -> Held
+    requires { ⌜ Roomy (now t) h × (h .depth ≤ 32) ⌝ }
+    ensures { λ r. ⌜ Kept h r × (held (now (t .exit)) r ≡ newAfter o (held (now (t .entry)) h)) × Outside (h .at) (now (t .entry)) (now (t .exit)) ⌝ }
+{
+    let key = Ty::uninit(o);
+    replace_locals(t, h, key, Ty::top());
+    put(t, h, 0, key)
 }

@@ -18,8 +18,8 @@ returns-2 : tie.Need-returns-2
 unfolding methodBy
 returns-2 c = search (c-ok, c-bad, calls) depth 12
 
-init-at-requires : tie.Need-init-at-requires
-init-at-requires c κs = search needs
+result-ok-requires : tie.Need-result-ok-requires
+result-ok-requires c κs = search needs
 
 returns-3 : tie.Need-returns-3
 unfolding methodBy
@@ -29,10 +29,6 @@ returns-4 : tie.Need-returns-4
 unfolding methodBy
 returns-4 c = search (c-ok, c-bad, calls) depth 12
 
-returns-5 : tie.Need-returns-5
-unfolding methodBy
-returns-5 c = search (c-ok, c-bad, calls) depth 12
-
 pub method-descriptor-spec : {M : Type 1} → statement M
 method-descriptor-spec =
     tie.close
@@ -41,7 +37,6 @@ method-descriptor-spec =
     returns
     too-many-requires
     returns-2
-    init-at-requires
+    result-ok-requires
     returns-3
-    returns-4
-    returns-5)
+    returns-4)

@@ -24,8 +24,8 @@ returns-2 : tie.Need-returns-2
 unfolding restBy foundOf
 returns-2 c = search notes depth 12
 
-cast-t16 : tie.Need-cast-t16
-cast-t16 c = search needs
+cast-t14 : tie.Need-cast-t14
+cast-t14 c = search needs
 
 returns-3 : tie.Need-returns-3
 unfolding restBy foundOf
@@ -48,7 +48,7 @@ rest-spec =
     inners-requires
     no-code-requires-2
     returns-2
-    cast-t16
+    cast-t14
     returns-3
     no-code-requires-3
     returns-4)
