@@ -31,10 +31,6 @@ fieldCount = 1027
 abbrev pub methodCount : ℕ
 methodCount = 1028
 
--- the parent's number, from linking
-abbrev pub parentWord : ℕ
-parentWord = 1029
-
 -- a member has a row of eight words: where it starts; how often Code stands (2 for more than once) and where its content starts;
 -- how often a StackMapTable stands in it, where its content starts and how long it is; two are free
 abbrev pub fieldRows : ℕ

@@ -26,4 +26,7 @@ pub mod Classes
 pub mod BuiltIns
 pub mod Program
 pub mod Link
+pub mod Numbers
+pub mod Chains
+pub mod Linked
 pub mod Computing

@@ -2,6 +2,7 @@
 pub mod bundle;
 pub mod descriptors;
 pub mod items;
+pub mod link;
 pub mod members;
 pub mod names;
 pub mod pool;
