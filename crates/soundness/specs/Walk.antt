@@ -16,7 +16,7 @@ use Rattle.verifier.specs.Lines.{Line, line, linesFrom, lines, isStart}
 use Rattle.verifier.specs.States.{State, flag, stack, stateFits, startState}
 use Rattle.verifier.specs.Frames.{Frame}
 use Rattle.verifier.specs.Rule.{rule}
-use Rattle.verifier.specs.Walk.{frameAt, intoFrame, meets, merged, operandsFit, operandClaims, handlersClaims, branchClaims, local, onward, walk, walkClaims}
+use Rattle.verifier.specs.Walk.{frameAt, intoFrame, meets, merged, operandsFit, operandClaims, handlersClaims, branchClaims, instructionClaims, onward, walk, walkClaims}
 use Rattle.soundness.specs.Base.{AllT-left, AllT-right}
 
 -- what the scan lists is what the machine fetches
@@ -63,9 +63,9 @@ pub data Into (P : Program) (S : State) : State → Type 0 where
 
 module _ (P : Program) (M : Method) (fs : List Frame) where
   here : (o : ℕ) (ls : List Line) (S : State) → T (ltb o (length (codeOf M))) → Lined P M (o + sizeAt (codeOf M) o) ls
-      → AllT (local P M fs o (instruction P M o) S) → AllT (walk P M fs ls (onward (instruction P M o) (rule P M o (instruction P M o) S .after)))
+      → AllT (instructionClaims P M fs o (instruction P M o) S) → AllT (walk P M fs ls (onward (instruction P M o) (rule P M o (instruction P M o) S .after)))
       → Here P M fs o S
-  unfolding local
+  unfolding instructionClaims
   here o ls S b k h w =
       let i = instruction P M o in
       let R = rule P M o i S in
@@ -88,11 +88,11 @@ module _ (P : Program) (M : Method) (fs : List Frame) where
       }
 
   -- the claims of one line
-  line-claims : (o : ℕ) (c : Option State) (F : Option State) (i : Instr) (w : List (Claim Fault)) → AllT (label (faultAt o) (meets P c F ++ local P M fs o i (merged c F)) ++ w)
-      → AllT (meets P c F) × AllT (local P M fs o i (merged c F)) × AllT w
+  line-claims : (o : ℕ) (c : Option State) (F : Option State) (i : Instr) (w : List (Claim Fault)) → AllT (label (faultAt o) (meets P c F ++ instructionClaims P M fs o i (merged c F)) ++ w)
+      → AllT (meets P c F) × AllT (instructionClaims P M fs o i (merged c F)) × AllT w
   line-claims o c F i w h =
-      let a = label-all (faultAt o) (meets P c F ++ local P M fs o i (merged c F)) (AllT-left (label (faultAt o) (meets P c F ++ local P M fs o i (merged c F))) w h) in
-      (AllT-left (meets P c F) _ a, AllT-right (meets P c F) _ a, AllT-right (label (faultAt o) (meets P c F ++ local P M fs o i (merged c F))) w h)
+      let a = label-all (faultAt o) (meets P c F ++ instructionClaims P M fs o i (merged c F)) (AllT-left (label (faultAt o) (meets P c F ++ instructionClaims P M fs o i (merged c F))) w h) in
+      (AllT-left (meets P c F) _ a, AllT-right (meets P c F) _ a, AllT-right (label (faultAt o) (meets P c F ++ instructionClaims P M fs o i (merged c F))) w h)
 
   -- control falls from a state that was walked on
   pub fallen : (S : State) (n : ℕ) (ls : List Line) → Lined P M n ls → AllT (walk P M fs ls (some S)) → (S′ : State) × Into P S S′ × Here P M fs n S′
@@ -101,7 +101,7 @@ module _ (P : Program) (M : Method) (fs : List Frame) where
   fallen S n (line o i n′ ∷ ls) (lcons b k) h = go (frameAt fs n) h
     where
       go : (F : Option State)
-          → AllT (label (faultAt n) (meets P (some S) F ++ local P M fs n (instruction P M n) (merged (some S) F))
+          → AllT (label (faultAt n) (meets P (some S) F ++ instructionClaims P M fs n (instruction P M n) (merged (some S) F))
           ++ walk P M fs ls (onward (instruction P M n) (rule P M n (instruction P M n) (merged (some S) F) .after)))
           → (S′ : State) × Into P S S′ × Here P M fs n S′
       go none h = let a = line-claims n (some S) none (instruction P M n) _ h in (S, same, here n ls S b k (a .1) (a .2))
@@ -109,7 +109,7 @@ module _ (P : Program) (M : Method) (fs : List Frame) where
 
   -- a frame takes the state's place
   at-frame : (F : State) (f c : Option State) → f ≡ some F → (o : ℕ) (ls : List Line) → T (ltb o (length (codeOf M))) → Lined P M (o + sizeAt (codeOf M) o) ls
-      → AllT (label (faultAt o) (meets P c f ++ local P M fs o (instruction P M o) (merged c f)) ++ walk P M fs ls (onward (instruction P M o) (rule P M o (instruction P M o) (merged c f) .after)))
+      → AllT (label (faultAt o) (meets P c f ++ instructionClaims P M fs o (instruction P M o) (merged c f)) ++ walk P M fs ls (onward (instruction P M o) (rule P M o (instruction P M o) (merged c f) .after)))
       → Here P M fs o F
   at-frame F none c e o ls b k h = let z : _≡_ {A = ℕ} 0 1 = cc in absurd (omega arith)
   at-frame F (some G) c e o ls b k h =
@@ -117,7 +117,7 @@ module _ (P : Program) (M : Method) (fs : List Frame) where
       let a = line-claims o c (some G) (instruction P M o) _ h in
       rw g (go c (a .1) (a .2))
     where
-      go : (c : Option State) → AllT (local P M fs o (instruction P M o) (merged c (some G))) → AllT (walk P M fs ls (onward (instruction P M o) (rule P M o (instruction P M o) (merged c (some G)) .after))) → Here P M fs o G
+      go : (c : Option State) → AllT (instructionClaims P M fs o (instruction P M o) (merged c (some G))) → AllT (walk P M fs ls (onward (instruction P M o) (rule P M o (instruction P M o) (merged c (some G)) .after))) → Here P M fs o G
       go none x y = here o ls G b k x y
       go (some S) x y = here o ls G b k x y
 

@@ -1,5 +1,5 @@
 -- A proof that unfolds this one name computes with every definition of phases C and D.
-use Rattle.verifier.specs.Frames.{shortAt, taggedAt, infoAt, chopped, oneOnStack, appended, fullAt, longForm, formAt, noTop, good, judged, frameAt, stateOf, framesFrom, tableAt, frames}
+use Rattle.verifier.specs.Frames.{numberAt, taggedAt, infoAt, chopped, oneOnStack, appended, fullAt, longForm, formAt, noTop, good, judged, frameAt, stateOf, framesFrom, tableAt, frames}
 use Rattle.verifier.specs.Lines.{linesFrom, lines, isStart, isNewAt, newClassAt}
 use Rattle.verifier.specs.Opcodes.{rows, rowIn, rowOf, instruction, sizeAt}
 use Rattle.verifier.specs.Resolve.{ownMethod, fieldIn, methodIn, resolve}
@@ -8,8 +8,8 @@ use Rattle.verifier.specs.Shape.{bodyClaims, formClaims, allStarts, refe
 use Rattle.verifier.specs.States.{slotsFit, stateFits, replaceAll, noCopy, padded, startState}
 use Rattle.verifier.specs.Types.{refFits, descFits, fits}
 use Rattle.verifier.specs.Verify.{overMethods, overClasses, shape, walked, typing, shapeRead, readShaped, typeRead, verdictOf, verifyOf}
-use Rattle.verifier.specs.Walk.{frameAt as frameAt·Walk, operandsFit, handlersClaims, branchClaims, local, walk, walkClaims}
+use Rattle.verifier.specs.Walk.{frameAt as frameAt·Walk, operandsFit, handlersClaims, branchClaims, instructionClaims, walk, walkClaims}
 
 unfoldable pub verifying : Unit {0}
-unfolding shortAt taggedAt infoAt chopped oneOnStack appended fullAt longForm formAt noTop good judged frameAt stateOf framesFrom tableAt frames linesFrom lines isStart isNewAt newClassAt rows rowIn rowOf instruction sizeAt ownMethod fieldIn methodIn resolve constructing calling rule bodyClaims formClaims allStarts referenceClaims catchClass rangeOk catchOk tableClaims shapeClaims slotsFit stateFits replaceAll noCopy padded startState refFits descFits fits overMethods overClasses shape walked typing shapeRead readShaped typeRead verdictOf verifyOf frameAt·Walk operandsFit handlersClaims branchClaims local walk walkClaims
+unfolding numberAt taggedAt infoAt chopped oneOnStack appended fullAt longForm formAt noTop good judged frameAt stateOf framesFrom tableAt frames linesFrom lines isStart isNewAt newClassAt rows rowIn rowOf instruction sizeAt ownMethod fieldIn methodIn resolve constructing calling rule bodyClaims formClaims allStarts referenceClaims catchClass rangeOk catchOk tableClaims shapeClaims slotsFit stateFits replaceAll noCopy padded startState refFits descFits fits overMethods overClasses shape walked typing shapeRead readShaped typeRead verdictOf verifyOf frameAt·Walk operandsFit handlersClaims branchClaims instructionClaims walk walkClaims
 verifying = tt

@@ -27,8 +27,9 @@ abbrev pub written : ℕ → List Ty → List Ty → Written
 written d l s = record { delta = d; locals = l; stack = s }
 
 module _ (P : Program) (M : Method) (all : List Line) (t : List ℕ) (k : ℕ) where
-  unfoldable pub shortAt : ℕ → Res ℕ
-  shortAt q = num2At t (length t) 14 k q
+  -- a u2 of the table
+  unfoldable pub numberAt : ℕ → Res ℕ
+  numberAt q = num2At t (length t) 14 k q
 
   abbrev pub classTy : Resolved → ℕ → Res Ty
   classTy q e = by (bad 14 k) (λ v. bad 14 k) (λ r. ok (ini r) e) (λ f. bad 14 k) (λ m. bad 14 k) q
@@ -40,8 +41,8 @@ module _ (P : Program) (M : Method) (all : List Line) (t : List ℕ) (k : ℕ) w
       (cond (eqb tag 1) (ok int e)
       (cond (eqb tag 5) (ok null e)
       (cond (eqb tag 6) (cond (isConstructor M) (ok (uninit self) e) (bad 14 k))
-      (cond (eqb tag 7) (andThen (shortAt e) λ i a. classTy (resolve P (class P (M .owner) .pool) i) a)
-      (cond (eqb tag 8) (andThen (shortAt e) λ L a. cond (isNewAt all L) (ok (uninit (at L)) a) (bad 14 k)) (bad 14 k))))))
+      (cond (eqb tag 7) (andThen (numberAt e) λ i a. classTy (resolve P (class P (M .owner) .pool) i) a)
+      (cond (eqb tag 8) (andThen (numberAt e) λ L a. cond (isNewAt all L) (ok (uninit (at L)) a) (bad 14 k)) (bad 14 k))))))
 
   unfoldable pub infoAt : ℕ → Res Ty
   infoAt q = cond (ltb q (length t)) (taggedAt (getD t q 0) (q + 1)) (bad 14 k)
@@ -58,7 +59,7 @@ module _ (P : Program) (M : Method) (all : List Line) (t : List ℕ) (k : ℕ) w
 
   unfoldable pub fullAt : ℕ → ℕ → Res Written
   fullAt d q =
-      andThen (shortAt q) λ n a. andThen (many infoAt n a) λ l b. andThen (shortAt b) λ m c. andThen (many infoAt m c) λ s e. ok (written d l s) e
+      andThen (numberAt q) λ n a. andThen (many infoAt n a) λ l b. andThen (numberAt b) λ m c. andThen (many infoAt m c) λ s e. ok (written d l s) e
 
   -- the forms with a u2 delta, which stands before q
   unfoldable pub longForm : ℕ → ℕ → List Ty → ℕ → Res Written
@@ -71,7 +72,7 @@ module _ (P : Program) (M : Method) (all : List Line) (t : List ℕ) (k : ℕ) w
   unfoldable pub formAt : ℕ → List Ty → ℕ → Res Written
   formAt tag l q =
       cond (ltb tag 64) (ok (written tag l []) q)
-      (cond (ltb tag 128) (oneOnStack (tag - 64) l q) (cond (ltb tag 247) (bad 14 k) (andThen (shortAt q) λ d a. longForm tag d l a)))
+      (cond (ltb tag 128) (oneOnStack (tag - 64) l q) (cond (ltb tag 247) (bad 14 k) (andThen (numberAt q) λ d a. longForm tag d l a)))
 
   unfoldable pub noTop : List Ty → Bool
   noTop [] = true

@@ -72,8 +72,8 @@ stepClaims P M fs o i S R =
     ++ (handlersClaims P M fs o (flag S) (R .caught) (body M .table) ++ branchClaims P fs (R .after) (targets i))
 
 -- all that is asked of the instruction at o in a state
-unfoldable pub local : Program → Method → List Frame → ℕ → Instr → State → List (Claim ℕ)
-local P M fs o i S = stepClaims P M fs o i S (rule P M o i S)
+unfoldable pub instructionClaims : Program → Method → List Frame → ℕ → Instr → State → List (Claim ℕ)
+instructionClaims P M fs o i S = stepClaims P M fs o i S (rule P M o i S)
 
 -- goto, athrow and returns leave no state
 abbrev pub onward : Instr → State → Option State
@@ -89,7 +89,7 @@ walk P M fs [] c = ending (length (codeOf M)) c
 walk P M fs (line o i n ∷ ls) c =
     let F = frameAt fs o in
     let S = merged c F in
-    label (faultAt o) (meets P c F ++ local P M fs o i S) ++ walk P M fs ls (onward i (rule P M o i S .after))
+    label (faultAt o) (meets P c F ++ instructionClaims P M fs o i S) ++ walk P M fs ls (onward i (rule P M o i S .after))
 
 unfoldable pub walkClaims : Program → Method → List Frame → List (Claim Fault)
 walkClaims P M fs = walk P M fs (lines P M) (some (startState M))
