@@ -78,21 +78,21 @@ module _ (b : List ℕ) (w x y z : ℕ) where
 
 -- ---- rows
 module _ (s : List ℕ) (pool : List Constant) where
-  pub row-by : (b c : List ℕ) (w : ℕ) → ((j : ℕ) → w ≤ j → j < w + 8 → word c j ≡ word b j) → rowIn s pool c w ≡ rowIn s pool b w
+  pub row-by : (b c : List ℕ) (w : ℕ) → ((j : ℕ) → w ≤ j → j < w + 6 → word c j ≡ word b j) → rowIn s pool c w ≡ rowIn s pool b w
   unfolding rowIn
   row-by b c w h =
       rw (h w (omega arith) (omega arith), h (w + 1) (omega arith) (omega arith), h (w + 2) (omega arith) (omega arith), h (w + 3) (omega arith) (omega arith), h (w + 4) (omega arith) (omega arith), h (w + 5) (omega arith) (omega arith))
 
   -- rows of the same words
-  pub rows-by : (b c : List ℕ) (w m : ℕ) → ((j : ℕ) → w ≤ j → j < w + 8 * m → word c j ≡ word b j) → rowsIn s pool c w m ≡ rowsIn s pool b w m
+  pub rows-by : (b c : List ℕ) (w m : ℕ) → ((j : ℕ) → w ≤ j → j < w + 6 * m → word c j ≡ word b j) → rowsIn s pool c w m ≡ rowsIn s pool b w m
   unfolding rowsIn
   rows-by b c w m h =
-      listed-same (λ i. rowIn s pool c (w + 8 * i)) (λ i. rowIn s pool b (w + 8 * i)) m (λ i l. row-by b c (w + 8 * i) (λ j x y. h j (omega arith) (omega arith)))
+      listed-same (λ i. rowIn s pool c (w + 6 * i)) (λ i. rowIn s pool b (w + 6 * i)) m (λ i l. row-by b c (w + 6 * i) (λ j x y. h j (omega arith) (omega arith)))
 
   -- one more row is written behind m of them
-  pub rows-next : (b c : List ℕ) (w m : ℕ) (v : Member) → take (4 * (w + 8 * m)) c ≡ take (4 * (w + 8 * m)) b → rowIn s pool c (w + 8 * m) ≡ v
+  pub rows-next : (b c : List ℕ) (w m : ℕ) (v : Member) → take (4 * (w + 6 * m)) c ≡ take (4 * (w + 6 * m)) b → rowIn s pool c (w + 6 * m) ≡ v
       → rowsIn s pool c w (m + 1) ≡ rowsIn s pool b w m ++ (v ∷ [])
   unfolding rowsIn
   rows-next b c w m v e h =
-      let p : rowsIn s pool c w m ≡ rowsIn s pool b w m = rows-by b c w m (λ j x y. kept-word (w + 8 * m) b c e j (omega arith)) in
-      listed-next (λ i. rowIn s pool c (w + 8 * i)) m ∙ cc
+      let p : rowsIn s pool c w m ≡ rowsIn s pool b w m = rows-by b c w m (λ j x y. kept-word (w + 6 * m) b c e j (omega arith)) in
+      listed-next (λ i. rowIn s pool c (w + 6 * i)) m ∙ cc

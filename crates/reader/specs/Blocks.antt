@@ -31,17 +31,17 @@ fieldCount = 1027
 abbrev pub methodCount : ℕ
 methodCount = 1028
 
--- a member has a row of eight words: where it starts; how often Code stands (2 for more than once) and where its content starts;
--- how often a StackMapTable stands in it, where its content starts and how long it is; two are free
+-- a member has a row of six words: where it starts; how often Code stands (2 for more than once) and where its content starts;
+-- how often a StackMapTable stands in it, where its content starts and how long it is
 abbrev pub fieldRows : ℕ
 fieldRows = 1032
 
 abbrev pub methodRows : ℕ
-methodRows = 1288
+methodRows = 1224
 
--- in bytes: 1800 words
+-- in bytes: 1608 words
 abbrev pub blockSize : ℕ
-blockSize = 7200
+blockSize = 6432
 
 -- f 0 .. f (n - 1)
 unfoldable pub listed : {A : Type 0} → (ℕ → A) → ℕ → List A
@@ -76,7 +76,7 @@ module _ (s : List ℕ) where
 
   -- n rows from word w on
   unfoldable pub rowsIn : List Constant → List ℕ → ℕ → ℕ → List Member
-  rowsIn pool b w n = listed (λ i. rowIn pool b (w + 8 * i)) n
+  rowsIn pool b w n = listed (λ i. rowIn pool b (w + 6 * i)) n
 
   unfoldable pub classIn : List ℕ → ClassFile
   classIn b = record {

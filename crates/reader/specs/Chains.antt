@@ -52,14 +52,14 @@ unfoldable pub rootedAt : List ℕ → ℕ → ℕ → Bool
 rootedAt u n c = reachIn u (firstClass + n) (firstClass + c)
 
 -- ---- laws
-pub unique-as : (s t : List ℕ) (n c r : ℕ) (p : Span) → IsText s p (classIn s (take (7200 * c + 7200 - 7200 * c) (drop (7200 * c) t)) .name)
+pub unique-as : (s t : List ℕ) (n c r : ℕ) (p : Span) → IsText s p (classIn s (take (6432 * c + 6432 - 6432 * c) (drop (6432 * c) t)) .name)
     → r ≡ numberOf s t n (take (p .end - p .start) (drop (p .start) s)) → eqb r (11 + c) ≡ uniqueAt s t n c
 unfolding uniqueAt
 unique-as s t n c r p h e =
     ap (λ (k : ℕ). eqb k (11 + c)) (e ∙ ap (numberOf s t n) (h .is ∙ ap (λ (b : List ℕ). classIn s b .name) (part-block t c)))
 
 -- a super as its block has it
-module _ (s t : List ℕ) (n none c i : ℕ) (h : i ≡ u2At s (word (take (7200 * c + 7200 - 7200 * c) (drop (7200 * c) t)) thisWord + 2)) where
+module _ (s t : List ℕ) (n none c i : ℕ) (h : i ≡ u2At s (word (take (6432 * c + 6432 - 6432 * c) (drop (6432 * c) t)) thisWord + 2)) where
   index-as : i ≡ u2At s (word (take blockSize (drop (blockSize * c) t)) thisWord + 2)
   index-as = h ∙ ap (λ (b : List ℕ). u2At s (word b thisWord + 2)) (part-block t c)
 
@@ -67,7 +67,7 @@ module _ (s t : List ℕ) (n none c i : ℕ) (h : i ≡ u2At s (word (take (7200
   unfolding superAs classIn superIn
   no-super z = rw (← index-as, z)
 
-  pub a-super : (i ≡ 0 → ⊥) → (r : ℕ) (p : Span) → IsText s p (classText (poolOf s (take (7200 * c + 7200 - 7200 * c) (drop (7200 * c) t))) i)
+  pub a-super : (i ≡ 0 → ⊥) → (r : ℕ) (p : Span) → IsText s p (classText (poolOf s (take (6432 * c + 6432 - 6432 * c) (drop (6432 * c) t))) i)
       → r ≡ numberOf s t n (take (p .end - p .start) (drop (p .start) s)) → r ≡ superAs s t n none c
   unfolding superAs classIn superIn
   a-super z r p x e =

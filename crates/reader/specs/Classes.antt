@@ -203,20 +203,20 @@ module _ (s : List ℕ) (k q : ℕ) (h : k < 16) where
 -- a turn: the part that was lent is the checker's
 module _ (s t P : List ℕ) (k q : ℕ) (g : Got) (x : Res (List ClassFile)) (h : k < 16) (l : 16 * blockSize ≤ length t) (lp : length P ≡ blockSize) where
   pub files-turn : pre (classesIn s t k) (classFilesAt s (16 - k) q) ≡ x → (q ≡ length s → ⊥) → resAs g (classIn s P) ≡ classFileAt s q → not (g .ok) ≡ false
-      → pre (classesIn s (take (7200 * k) t ++ (P ++ drop (7200 * k + 7200 - 7200 * k) (drop (7200 * k) t))) (k + 1)) (classFilesAt s (16 - (k + 1)) (g .at)) ≡ x
+      → pre (classesIn s (take (6432 * k) t ++ (P ++ drop (6432 * k + 6432 - 6432 * k) (drop (6432 * k) t))) (k + 1)) (classFilesAt s (16 - (k + 1)) (g .at)) ≡ x
   files-turn i n e o =
-      ap (λ (fs : List ClassFile). pre fs (classFilesAt s (16 - (k + 1)) (g .at))) (classes-next s t P (drop (7200 * k + 7200 - 7200 * k) (drop (7200 * k) t)) k (omega arith) lp)
+      ap (λ (fs : List ClassFile). pre fs (classFilesAt s (16 - (k + 1)) (g .at))) (classes-next s t P (drop (6432 * k + 6432 - 6432 * k) (drop (6432 * k) t)) k (omega arith) lp)
       ∙ files-more s k q h (classesIn s t k) x i n g (classIn s P) e o
 
-  pub turn-length : length (take (7200 * k) t ++ (P ++ drop (7200 * k + 7200 - 7200 * k) (drop (7200 * k) t))) ≡ length t
+  pub turn-length : length (take (6432 * k) t ++ (P ++ drop (6432 * k + 6432 - 6432 * k) (drop (6432 * k) t))) ≡ length t
   turn-length =
-      let z : 7200 * k + 7200 - 7200 * k ≡ 7200 = omega arith in
-      rw z (length-back t P (7200 * k) 7200 lp (omega arith))
+      let z : 6432 * k + 6432 - 6432 * k ≡ 6432 = omega arith in
+      rw z (length-back t P (6432 * k) 6432 lp (omega arith))
 
-pub block-length : (t : List ℕ) (k : ℕ) → k < 16 → 16 * blockSize ≤ length t → length (take (7200 * k + 7200 - 7200 * k) (drop (7200 * k) t)) ≡ blockSize
+pub block-length : (t : List ℕ) (k : ℕ) → k < 16 → 16 * blockSize ≤ length t → length (take (6432 * k + 6432 - 6432 * k) (drop (6432 * k) t)) ≡ blockSize
 block-length t k h l =
-    let z : 7200 * k + 7200 - 7200 * k ≡ 7200 = omega arith in
-    rw z (length-part (7200 * k) 7200 t (omega arith))
+    let z : 6432 * k + 6432 - 6432 * k ≡ 6432 = omega arith in
+    rw z (length-part (6432 * k) 6432 t (omega arith))
 
 pub files-start : (s t : List ℕ) → pre (classesIn s t 0) (classFilesAt s (16 - 0) 0) ≡ classFilesAt s 16 0
 unfolding classesIn listed

@@ -28,13 +28,13 @@ use Rattle.reader.specs.declared.link.Linked.{Linked}
 
 -- behind 16 blocks: a word a class, the built-in ones first
 abbrev pub parentsAt : ℕ
-parentsAt = 115200
+parentsAt = 102912
 
 abbrev pub parentsWord : ℕ
-parentsWord = 28800
+parentsWord = 25728
 
 abbrev pub parentsEnd : ℕ
-parentsEnd = 115308
+parentsEnd = 103020
 
 -- the class files of the blocks
 abbrev pub filesIn : List ℕ → ℕ → List ℕ → List ClassFile
@@ -147,18 +147,18 @@ module _ (s : List ℕ) (n : ℕ) (t : List ℕ) (m : n ≤ 16) where
         (ap (λ (k : ℕ). upTo (programOf (filesIn s n t)) k (firstClass + i) object) (length-program (filesIn s n t) ∙ ap (λ (k : ℕ). firstClass + k) (counted s T n))
         ∙ sym (reach-is (programOf (filesIn s n t)) u p (firstClass + n) (firstClass + i)))
 
-  start-as : (i : ℕ) → i < 16 → word t (1800 * i + startWord) ≡ classAt s T i .start
+  start-as : (i : ℕ) → i < 16 → word t (1608 * i + startWord) ≡ classAt s T i .start
   unfolding classIn
   start-as i h =
-      let z : 4 * (1800 * i) ≡ blockSize * i = omega arith in
-      sym (word-take parentsAt t (1800 * i + startWord) (omega arith))
-      ∙ sym (word-part (1800 * i) blockSize T startWord (omega arith))
+      let z : 4 * (1608 * i) ≡ blockSize * i = omega arith in
+      sym (word-take parentsAt t (1608 * i + startWord) (omega arith))
+      ∙ sym (word-part (1608 * i) blockSize T startWord (omega arith))
       ∙ ap (λ (k : ℕ). word (take blockSize (drop k T)) startWord) z
 
-  refused-as : (k i : ℕ) (u : List ℕ) (r : Linked) → i < 16 → take parentsAt u ≡ T → eqb k 0 ≡ false → (r .number ≡ k) × (r .class ≡ i) × (r .place ≡ word u (1800 * i + startWord))
+  refused-as : (k i : ℕ) (u : List ℕ) (r : Linked) → i < 16 → take parentsAt u ≡ T → eqb k 0 ≡ false → (r .number ≡ k) × (r .class ≡ i) × (r .place ≡ word u (1608 * i + startWord))
       → rulingOf r ≡ fail (placed k i)
   refused-as k i u r h e z f =
-      let p : r .place ≡ classAt s T i .start = f .2 ∙ sym (word-take parentsAt u (1800 * i + startWord) (omega arith)) ∙ ap (λ (l : List ℕ). word l (1800 * i + startWord)) e ∙ word-take parentsAt t (1800 * i + startWord) (omega arith) ∙ start-as i h in
+      let p : r .place ≡ classAt s T i .start = f .2 ∙ sym (word-take parentsAt u (1608 * i + startWord) (omega arith)) ∙ ap (λ (l : List ℕ). word l (1608 * i + startWord)) e ∙ word-take parentsAt t (1608 * i + startWord) (omega arith) ∙ start-as i h in
       rw (f .0, f .1, p, z)
 
 -- ---- the parents' words
@@ -203,7 +203,7 @@ module _ (s : List ℕ) (n : ℕ) (t : List ℕ) (m : n ≤ 16) (i : ℕ) (ei : 
   abbrev T₀ : List ℕ
   T₀ = take parentsAt t
 
-  pub linked-double : i < n → (r : Linked) → (r .number ≡ 8) × (r .class ≡ i) × (r .place ≡ word t (1800 * i + startWord)) → ClassesLinked s n r t t
+  pub linked-double : i < n → (r : Linked) → (r .number ≡ 8) × (r .class ≡ i) × (r .place ≡ word t (1608 * i + startWord)) → ClassesLinked s n r t t
   unfolding classRuling
   linked-double h r f = record {
     is =
@@ -217,7 +217,7 @@ module _ (s : List ℕ) (n : ℕ) (t : List ℕ) (m : n ≤ 16) (i : ℕ) (ei : 
     names-pass : verdict (each (uniqueClass (filesIn s n t)) 0 (filesIn s n t)) ≡ pass
     names-pass = ruled-pass anyClass (uniqueClass (filesIn s n t)) (placed s n t m 8) (uniqueAt s T₀ n) (filesIn s n t) n (counted s T₀ n) (unique-claim s n t m anyClass) i ei hi
 
-    pub linked-unknown : j < n → (r : Linked) → (r .number ≡ 9) × (r .class ≡ j) × (r .place ≡ word t (1800 * j + startWord)) → ClassesLinked s n r t t
+    pub linked-unknown : j < n → (r : Linked) → (r .number ≡ 9) × (r .class ≡ j) × (r .place ≡ word t (1608 * j + startWord)) → ClassesLinked s n r t t
     unfolding classRuling
     linked-unknown h r f = record {
       is =
@@ -235,7 +235,7 @@ module _ (s : List ℕ) (n : ℕ) (t : List ℕ) (m : n ≤ 16) (i : ℕ) (ei : 
       words-are : (c : ℕ) → word (U s n u hu l m) c ≡ class (programOf (filesIn s n t)) c .parent
       words-are c = table-word s n u hu l m c ∙ ap (λ (z : List ℕ). class (programOf (classesIn s z n)) c .parent) eu
 
-      pub linked-cut : k < n → (r : Linked) → (r .number ≡ 9) × (r .class ≡ k) × (r .place ≡ word u (1800 * k + startWord)) → ClassesLinked s n r t u
+      pub linked-cut : k < n → (r : Linked) → (r .number ≡ 9) × (r .class ≡ k) × (r .place ≡ word u (1608 * k + startWord)) → ClassesLinked s n r t u
       unfolding classRuling
       linked-cut h r f = record {
         is =

@@ -169,8 +169,8 @@ module _ (fs : List ClassFile) (x : Text) (k : ℕ) (h : k ≡ numberIn builtInN
 
 -- ---- names in a block
 module _ (b : List ℕ) (k : ℕ) (h : k ≡ word b poolWord) where
-  pub tags-all : length b ≡ blockSize → 1800 < k → take 7200 b ≡ take (4 * word b poolWord) b
-  tags-all l g = take-all 7200 b (omega arith) ∙ sym (take-all (4 * word b poolWord) b (omega arith))
+  pub tags-all : length b ≡ blockSize → 1608 < k → take 6432 b ≡ take (4 * word b poolWord) b
+  tags-all l g = take-all 6432 b (omega arith) ∙ sym (take-all (4 * word b poolWord) b (omega arith))
 
   pub tags-some : take (4 * k) b ≡ take (4 * word b poolWord) b
   tags-some = ap (λ (n : ℕ). take (4 * n) b) h
@@ -187,10 +187,10 @@ unfolding classIn
 name-as s b p i r h e t = subst (λ (n : ℕ). IsText s r (classText (poolOf s b) n)) (e ∙ ap (u2At s) h) t
 
 -- the part that a block is lent as
-pub part-block : (t : List ℕ) (c : ℕ) → take (7200 * c + 7200 - 7200 * c) (drop (7200 * c) t) ≡ take blockSize (drop (blockSize * c) t)
-part-block t c = let z : 7200 * c + 7200 - 7200 * c ≡ 7200 = omega arith in ap (λ (n : ℕ). take n (drop (7200 * c) t)) z
+pub part-block : (t : List ℕ) (c : ℕ) → take (6432 * c + 6432 - 6432 * c) (drop (6432 * c) t) ≡ take blockSize (drop (blockSize * c) t)
+part-block t c = let z : 6432 * c + 6432 - 6432 * c ≡ 6432 = omega arith in ap (λ (n : ℕ). take n (drop (6432 * c) t)) z
 
-pub other-as : (s t x : List ℕ) (c : ℕ) (p : Span) (q : Bool) → IsText s p (classIn s (take (7200 * c + 7200 - 7200 * c) (drop (7200 * c) t)) .name)
+pub other-as : (s t x : List ℕ) (c : ℕ) (p : Span) (q : Bool) → IsText s p (classIn s (take (6432 * c + 6432 - 6432 * c) (drop (6432 * c) t)) .name)
     → q ≡ eqList (take (p .end - p .start) (drop (p .start) s)) x → not q ≡ otherName s t x c
 unfolding otherName
 other-as s t x c p q h e =

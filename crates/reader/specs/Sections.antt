@@ -94,7 +94,7 @@ module _ (s : List ℕ) (pool : List Constant) (b : List ℕ) (w : ℕ) (m : Boo
     pub rows-stop : (v : List Member) → not (g .got .ok) ≡ true → resAs (g .got) v ≡ x
     rows-stop v t = many-stop (memberAt s pool m) n i q (rowsIn s pool b w i) x z (g .got) (memberOf s pool q (codeIn s (g .code))) h e v t
 
-    pub rows-more : (c : List ℕ) → not (g .got .ok) ≡ false → IsRow b c (w + 8 * i) q (g .code)
+    pub rows-more : (c : List ℕ) → not (g .got .ok) ≡ false → IsRow b c (w + 6 * i) q (g .code)
         → pre (rowsIn s pool c w (i + 1)) (many (memberAt s pool m) (n - (i + 1)) (g .got .at)) ≡ x
     rows-more c t r =
         ap (λ (l : List Member). pre l (many (memberAt s pool m) (n - (i + 1)) (g .got .at))) (rows-next s pool b c w i _ (r .below) (r .row s pool))
@@ -105,8 +105,8 @@ pub rows-start : (s : List ℕ) (pool : List Constant) (b : List ℕ) (w : ℕ) 
 unfolding rowsIn listed
 rows-start s pool b w f n q = let y : n - 0 ≡ n = omega arith in pre-nil (many f (n - 0) q) ∙ ap (λ (j : ℕ). many f j q) y
 
-pub rows-below : (b c : List ℕ) (w i q : ℕ) (k : Code) → IsRow b c (w + 8 * i) q k → take (4 * w) c ≡ take (4 * w) b
-rows-below b c w i q k r = kept-take (w + 8 * i) b c (r .below) w (omega arith)
+pub rows-below : (b c : List ℕ) (w i q : ℕ) (k : Code) → IsRow b c (w + 6 * i) q k → take (4 * w) c ≡ take (4 * w) b
+rows-below b c w i q k r = kept-take (w + 6 * i) b c (r .below) w (omega arith)
 
 -- ---- u2 count; members[count]: b is the block before, d after, r the answer
 abbrev pub tagged : List ℕ → ℕ → List ℕ → List Constant

@@ -244,7 +244,7 @@ fn put_row(b: &mut [u8], w: usize, q: u32, c: Code)
 
 // n members, a row each from word w on; k tags stand in front.
 fn rows(s: &[u8], b: &mut [u8], k: usize, method: bool, w: usize, n: usize, from: usize) -> Got
-    requires { ⌜ (length (now s) ≤ 65536) × (from ≤ length (now s)) × (k ≤ w) × (n ≤ 64) × (4 * (w + 8 * n) ≤ length (now b)) ⌝ }
+    requires { ⌜ (length (now s) ≤ 65536) × (from ≤ length (now s)) × (k ≤ w) × (n ≤ 64) × (4 * (w + 6 * n) ≤ length (now b)) ⌝ }
     ensures { λ r. ⌜ (resAs r (rowsIn (now (s .entry)) (poolIn (now (s .entry)) (take (4 * k) (now (b .entry)))) (now (b .exit)) w n) ≡ many (memberAt (now (s .entry)) (poolIn (now (s .entry)) (take (4 * k) (now (b .entry)))) method) n from) × (take (4 * w) (now (b .exit)) ≡ take (4 * w) (now (b .entry))) ⌝ }
 {
     let e = 4 * k;
@@ -257,7 +257,7 @@ fn rows(s: &[u8], b: &mut [u8], k: usize, method: bool, w: usize, n: usize, from
         if !got.ok {
             return got;
         }
-        put_row(b, w + 8 * i, q as u32, code);
+        put_row(b, w + 6 * i, q as u32, code);
         q = got.at;
         i += 1;
     }
@@ -279,7 +279,7 @@ fn section(
     most: usize,
     q: usize,
 ) -> Got
-    requires { ⌜ (length (now s) ≤ 65536) × (k ≤ c) × (c < w) × (most ≤ 64) × (4 * (w + 8 * most) ≤ length (now b)) ⌝ }
+    requires { ⌜ (length (now s) ≤ 65536) × (k ≤ c) × (c < w) × (most ≤ 64) × (4 * (w + 6 * most) ≤ length (now b)) ⌝ }
     ensures { λ r. ⌜ IsSection (now (s .entry)) k method c w most q r (now (b .entry)) (now (b .exit)) ⌝ }
 {
     let n = items::short(s, s.len(), 2, q, most, q);
@@ -304,7 +304,7 @@ fn class_file(s: &[u8], q: usize, b: &mut [u8]) -> Got
     if !f.ok {
         return f;
     }
-    let m = section(s, b, k, true, 1028, 1288, 64, f.at);
+    let m = section(s, b, k, true, 1028, 1224, 64, f.at);
     if !m.ok {
         return m;
     }
@@ -350,8 +350,8 @@ fn class_files(s: &[u8], t: &mut [u8]) -> Got
                 at: q,
             };
         }
-        let a = 7200 * k;
-        let e = a + 7200;
+        let a = 6432 * k;
+        let e = a + 6432;
         let g = class_file(s, q, &mut t[a..e]);
         if !g.ok {
             return g;

@@ -24,8 +24,8 @@ fn tags_end(b: &[u8]) -> usize
     ensures { λ r. ⌜ (take r (now (b .entry)) ≡ take (4 * word (now (b .entry)) poolWord) (now (b .entry))) × (r ≤ blockSize) ⌝ }
 {
     let k = kit::word(b, 1025) as usize;
-    if 1800 < k {
-        return 7200;
+    if 1608 < k {
+        return 6432;
     }
     4 * k
 }
@@ -52,8 +52,8 @@ fn other_name(s: &[u8], t: &[u8], c: usize, x: &[u8]) -> bool
     requires { ⌜ (c < 16) × (16 * blockSize ≤ length (now t)) ⌝ }
     ensures { λ r. ⌜ r ≡ otherName (now (s .entry)) (now (t .entry)) (now (x .entry)) c ⌝ }
 {
-    let a = 7200 * c;
-    let e = a + 7200;
+    let a = 6432 * c;
+    let e = a + 6432;
     let p = name_in(s, &t[a..e]);
     let f = p.start;
     let g = p.end;
@@ -149,8 +149,8 @@ fn is_unique(s: &[u8], t: &[u8], n: usize, c: usize) -> bool
     requires { ⌜ (n ≤ 16) × (c < 16) × (16 * blockSize ≤ length (now t)) ⌝ }
     ensures { λ r. ⌜ r ≡ uniqueAt (now (s .entry)) (now (t .entry)) n c ⌝ }
 {
-    let a = 7200 * c;
-    let e = a + 7200;
+    let a = 6432 * c;
+    let e = a + 6432;
     let p = name_in(s, &t[a..e]);
     let f = p.start;
     let g = p.end;
@@ -169,8 +169,8 @@ fn super_number(s: &[u8], t: &[u8], n: usize, c: usize, none: usize) -> usize
     requires { ⌜ (n ≤ 16) × (c < 16) × (none ≤ 27) × (16 * blockSize ≤ length (now t)) ⌝ }
     ensures { λ r. ⌜ (r ≡ superAs (now (s .entry)) (now (t .entry)) n none c) × (r ≤ 27) ⌝ }
 {
-    let a = 7200 * c;
-    let e = a + 7200;
+    let a = 6432 * c;
+    let e = a + 6432;
     let i = super_index(s, &t[a..e]);
     if i == 0 {
         return none;
@@ -293,8 +293,8 @@ fn parents(s: &[u8], t: &mut [u8], n: usize)
     let e = 11 + n;
     let mut c = 0;
     while c < e {
-        let p = parent(s, &t[0..115200], n, c);
-        kit::put_word(t, 28800 + c, p as u32);
+        let p = parent(s, &t[0..102912], n, c);
+        kit::put_word(t, 25728 + c, p as u32);
         c += 1;
     }
 }
@@ -309,12 +309,12 @@ pub struct Linked {
 // Class c is refused by number k, at its first byte.
 fn refused(t: &[u8], k: usize, c: usize) -> Linked
     requires { ⌜ c < 16 ⌝ }
-    ensures { λ r. ⌜ (r .number ≡ k) × (r .class ≡ c) × (r .place ≡ word (now (t .entry)) (1800 * c + startWord)) ⌝ }
+    ensures { λ r. ⌜ (r .number ≡ k) × (r .class ≡ c) × (r .place ≡ word (now (t .entry)) (1608 * c + startWord)) ⌝ }
 {
     Linked {
         number: k,
         class: c,
-        place: kit::word(t, 1800 * c + 1024) as usize,
+        place: kit::word(t, 1608 * c + 1024) as usize,
     }
 }
 
@@ -323,17 +323,17 @@ pub fn classes(s: &[u8], t: &mut [u8], n: usize) -> Linked
     requires { ⌜ (n ≤ 16) × (parentsEnd ≤ length (now t)) ⌝ }
     ensures { λ r. ⌜ ClassesLinked (now (s .entry)) n r (now (t .entry)) (now (t .exit)) ⌝ }
 {
-    let i = first_double(s, &t[0..115200], n);
+    let i = first_double(s, &t[0..102912], n);
     if i < n {
         return refused(t, 8, i);
     }
-    let j = first_unknown(s, &t[0..115200], n);
+    let j = first_unknown(s, &t[0..102912], n);
     if j < n {
         return refused(t, 9, j);
     }
     parents(s, t, n);
-    let e = 115200 + 4 * (11 + n);
-    let k = first_cut(&t[115200..e], n);
+    let e = 102912 + 4 * (11 + n);
+    let k = first_cut(&t[102912..e], n);
     if k < n {
         return refused(t, 9, k);
     }

@@ -72,7 +72,7 @@ part-attributes-end c =
     let b13 = b11 .before .before in
     let b17 = b13 .before .before .before .before in
     let b21 = b17 .before .before .before .before in
-    let l : length (b5 .section2 .last .1 .0) ≡ 7200 = b5 .section2 .kept .1 .0 ∙ (b11 .section .kept .1 .0 ∙ (b17 .class-head .kept .1 .1 .0 ∙ b21 .pre .2)) in let z : 4 * b17 .class-head .result .val ≤ length (b5 .section2 .last .1 .0) = omega (arith, b17 .class-head .ensures .most (not-false _ (b13 .if1 .left))) in z
+    let l : length (b5 .section2 .last .1 .0) ≡ 6432 = b5 .section2 .kept .1 .0 ∙ (b11 .section .kept .1 .0 ∙ (b17 .class-head .kept .1 .1 .0 ∙ b21 .pre .2)) in let z : 4 * b17 .class-head .result .val ≤ length (b5 .section2 .last .1 .0) = omega (arith, b17 .class-head .ensures .most (not-false _ (b13 .if1 .left))) in z
 
 attributes-requires : tie.Need-attributes-requires
 attributes-requires c κs =

@@ -87,7 +87,7 @@ part-first-cut-end : tie.Need-part-first-cut-end
 part-first-cut-end c =
     let b3 = c .before .before .before in
     let b15 = b3 .before .before .before .before .before .before .before .before .before .before .before .before in
-    let l : length (b3 .parents .last .1 .0) ≡ length (b15 .args .t .now) = b3 .parents .kept .1 .0 in let z : 115200 + 4 * (11 + b15 .args .n) ≤ length (b3 .parents .last .1 .0) = omega (arith, b15 .pre .0, b15 .pre .1) in z
+    let l : length (b3 .parents .last .1 .0) ≡ length (b15 .args .t .now) = b3 .parents .kept .1 .0 in let z : 102912 + 4 * (11 + b15 .args .n) ≤ length (b3 .parents .last .1 .0) = omega (arith, b15 .pre .0, b15 .pre .1) in z
 
 first-cut-requires : tie.Need-first-cut-requires
 first-cut-requires c κs = search needs
