@@ -10,7 +10,7 @@ use borrow.Author.Tests.{eqb-true, ltb-true, lt-leb}
 use Rattle.kit.specs.Bools.{both-left, both-right}
 use Rattle.kit.specs.Rows.{every, row}
 use Rattle.verifier.specs.Instruction.{illegal}
-use Rattle.verifier.specs.Opcodes.{Row, Operands, rows, rowIn, rowOf, lengthOf, takenOf, leftOf}
+use Rattle.verifier.specs.Opcodes.{Row, Operands, rows, within, rowIn, rowOf, lengthOf, takenOf, leftOf}
 use Rattle.verifier.specs.Opcodes as opcodes
 
 unfoldable pub table : List ℕ
@@ -101,3 +101,26 @@ past (opcodes.row a b n t l f ∷ rs) op e h =
 pub no-byte : (op : ℕ) → 256 ≤ op → rowOf op ≡ opcodes.row op op 0 0 0 (λ (x : Operands). illegal)
 unfolding rowOf
 no-byte op h = past rows op all-bytes h
+
+-- no instruction is longer than three bytes
+short : List Row → Bool
+short [] = true
+short (opcodes.row a b n t l f ∷ rs) = ltb n 4 && short rs
+
+all-short : short rows ≡ true
+unfolding short rows
+all-short = refl
+
+short-in : (rs : List Row) (op : ℕ) → short rs ≡ true → lengthOf (rowIn rs op) < 4
+unfolding short rowIn
+short-in [] op e = omega arith
+short-in (opcodes.row a b n t l f ∷ rs) op e =
+    go (within a b op) (ltb-true n 4 (both-left (ltb n 4) (short rs) e)) (short-in rs op (both-right (ltb n 4) (short rs) e))
+  where
+    go : (u : Bool) → n < 4 → lengthOf (rowIn rs op) < 4 → lengthOf (cond u (opcodes.row a b n t l f) (rowIn rs op)) < 4
+    go true p q = p
+    go false p q = q
+
+pub length-short : (op : ℕ) → lengthOf (rowOf op) < 4
+unfolding rowOf
+length-short op = short-in rows op all-short

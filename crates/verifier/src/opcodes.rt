@@ -1,5 +1,6 @@
 // The opcode table: for each opcode byte its length, the fixed operands it takes and those it leaves; 0, 0, 0 where it is not listed.
 ghost use mathlib.Core.Path.{_≡_};
+ghost use Prim.Native.Nat.{_<_};
 ghost use Rattle.verifier.specs.Opcodes.{rowOf, lengthOf, takenOf, leftOf, sizeAt};
 
 const ROWS: [u8; 768] = [
@@ -802,7 +803,7 @@ pub fn left(op: usize) -> u8
 
 // The length of the instruction at an offset of a method's code.
 pub fn size_at(code: &[u8], o: usize) -> usize
-    ensures { λ r. ⌜ r ≡ sizeAt (now (code .entry)) o ⌝ }
+    ensures { λ r. ⌜ (r ≡ sizeAt (now (code .entry)) o) × (r < 4) ⌝ }
 {
     length(kit::byte(code, o)) as usize
 }

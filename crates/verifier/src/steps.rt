@@ -120,31 +120,21 @@ fn ask_with(t: &[u8], kin: Kin, h: Held, k: Takes, own: u32, c: usize, p: usize,
 
 // ---- Locals.
 
+// No operands; the form's own answer, then room for p more.
+fn ask_read(t: &[u8], kin: Kin, h: Held, own: u32, p: usize, most: usize) -> u32
+    requires { ⌜ Placed (now t) h ⌝ }
+    ensures { λ r. ⌜ is r ≡ then (verdict (asked (lineage (now (t .entry)) (kin .at) (kin .count)) (operandsOf (now (t .entry)) h) [])) (then (is own) (verdict (claim 15 (leb (p + (h .depth - 0)) most) ∷ []))) ⌝ }
+{
+    ask_with(t, kin, h, Takes::Zero, own, 0, p, most)
+}
+
 pub fn ask_local(t: &[u8], kin: Kin, h: Held, i: Local, most: usize) -> u32
     requires { ⌜ Placed (now t) h ⌝ }
     ensures { λ r. ⌜ is r ≡ verdict (localClaims (lineage (now (t .entry)) (kin .at) (kin .count)) most i (held (now (t .entry)) h)) ⌝ }
 {
     match i {
-        Local::Iload(j) => ask_with(
-            t,
-            kin,
-            h,
-            Takes::Zero,
-            int_local(t, h, j as usize),
-            0,
-            1,
-            most,
-        ),
-        Local::Aload(j) => ask_with(
-            t,
-            kin,
-            h,
-            Takes::Zero,
-            reference_local(t, h, j as usize),
-            0,
-            1,
-            most,
-        ),
+        Local::Iload(j) => ask_read(t, kin, h, int_local(t, h, j as usize), 1, most),
+        Local::Aload(j) => ask_read(t, kin, h, reference_local(t, h, j as usize), 1, most),
         Local::Istore(_) => ask_with(t, kin, h, Takes::One(Ty::int()), 0, 1, 0, most),
         Local::Astore(_) => ask_with(
             t,
@@ -156,16 +146,7 @@ pub fn ask_local(t: &[u8], kin: Kin, h: Held, i: Local, most: usize) -> u32
             0,
             most,
         ),
-        Local::Iinc(j, _) => ask_with(
-            t,
-            kin,
-            h,
-            Takes::Zero,
-            int_local(t, h, j as usize),
-            0,
-            0,
-            most,
-        ),
+        Local::Iinc(j, _) => ask_read(t, kin, h, int_local(t, h, j as usize), 0, most),
     }
 }
 

@@ -1,4 +1,8 @@
-use Rattle.verifier.specs.Opcodes.{sizeAt}
+use mathlib.Core.Path.{_≡_}
+use Prim.Native.Nat.{ℕ}
+use native.Mathlib.Omega.{arith}
+use Rattle.verifier.specs.OpcodeTable.{length-short}
+use Rattle.verifier.specs.Opcodes.{sizeAt, lengthOf, rowOf}
 use borrow.Author.Needs.{needs}
 use Rattle.verifier.proofs.opcodes.size_at.Statement.{statement}
 use Rattle.verifier.proofs.opcodes.size_at.Tie as tie
@@ -14,7 +18,9 @@ cast-result c = search needs
 
 returns : tie.Need-returns
 unfolding sizeAt
-returns c = cc
+returns c =
+    let e : _≡_ {A = ℕ} (c .length .result) (lengthOf (rowOf (c .before .byte .result))) = c .length .ensures in
+    (cc, omega (arith, length-short (c .before .byte .result)))
 
 pub size-at-spec : {M : Type 1} → statement M
 size-at-spec = tie.close (tie.spec byte-requires length-requires cast-result returns)

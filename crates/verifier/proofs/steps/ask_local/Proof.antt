@@ -12,8 +12,8 @@ cast-int-local c = search needs
 int-local-requires : tie.Need-int-local-requires
 int-local-requires c κs = search needs
 
-ask-with-requires : tie.Need-ask-with-requires
-ask-with-requires c κs = search needs
+ask-read-requires : tie.Need-ask-read-requires
+ask-read-requires c κs = search needs
 
 enum-known-i-2 : tie.Need-enum-known-i-2
 enum-known-i-2 c = search needs
@@ -24,8 +24,8 @@ cast-reference-local c = search needs
 reference-local-requires : tie.Need-reference-local-requires
 reference-local-requires c κs = search needs
 
-ask-with-requires-2 : tie.Need-ask-with-requires-2
-ask-with-requires-2 c κs = search needs
+ask-read-requires-2 : tie.Need-ask-read-requires-2
+ask-read-requires-2 c κs = search needs
 
 enum-told : tie.Need-enum-told
 enum-told c = search needs
@@ -33,8 +33,8 @@ enum-told c = search needs
 int-requires : tie.Need-int-requires
 int-requires c κs = search needs
 
-ask-with-requires-3 : tie.Need-ask-with-requires-3
-ask-with-requires-3 c κs = search needs
+ask-with-requires : tie.Need-ask-with-requires
+ask-with-requires c κs = search needs
 
 enum-told-2 : tie.Need-enum-told-2
 enum-told-2 c = search needs
@@ -45,8 +45,8 @@ top-requires c κs = search needs
 reference-top-requires : tie.Need-reference-top-requires
 reference-top-requires c κs = search needs
 
-ask-with-requires-4 : tie.Need-ask-with-requires-4
-ask-with-requires-4 c κs = search needs
+ask-with-requires-2 : tie.Need-ask-with-requires-2
+ask-with-requires-2 c κs = search needs
 
 enum-known-i-3 : tie.Need-enum-known-i-3
 enum-known-i-3 c = search needs
@@ -57,8 +57,8 @@ cast-int-local-2 c = search needs
 int-local-requires-2 : tie.Need-int-local-requires-2
 int-local-requires-2 c κs = search needs
 
-ask-with-requires-5 : tie.Need-ask-with-requires-5
-ask-with-requires-5 c κs = search needs
+ask-read-requires-3 : tie.Need-ask-read-requires-3
+ask-read-requires-3 c κs = search needs
 
 returns : tie.Need-returns
 returns c = search ways depth 12
@@ -82,22 +82,22 @@ ask-local-spec =
     enum-known-i
     cast-int-local
     int-local-requires
-    ask-with-requires
+    ask-read-requires
     enum-known-i-2
     cast-reference-local
     reference-local-requires
-    ask-with-requires-2
+    ask-read-requires-2
     enum-told
     int-requires
-    ask-with-requires-3
+    ask-with-requires
     enum-told-2
     top-requires
     reference-top-requires
-    ask-with-requires-4
+    ask-with-requires-2
     enum-known-i-3
     cast-int-local-2
     int-local-requires-2
-    ask-with-requires-5
+    ask-read-requires-3
     returns
     returns-2
     returns-3
