@@ -4,6 +4,8 @@ pub mod Opcodes
 pub mod OpcodeTable
 pub mod Types
 pub mod TypeWords
+pub mod TypeCodes
+pub mod ResolvedWords
 pub mod States
 pub mod Ancestry
 pub mod Lines
@@ -22,6 +24,7 @@ pub mod Groups
 pub mod GroupLaws
 pub mod CallLaws
 pub mod FrameLaws
+pub mod Sites
 pub mod Verify
 pub mod Computing
 pub mod Laws

@@ -4,6 +4,7 @@ pub mod forms;
 pub mod frames;
 pub mod instruction;
 pub mod opcodes;
+pub mod site;
 pub mod slots;
 pub mod steps;
 pub mod types;
