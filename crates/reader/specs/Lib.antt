@@ -29,4 +29,6 @@ pub mod Link
 pub mod Numbers
 pub mod Chains
 pub mod Linked
+pub mod MemberRows
+pub mod Lookup
 pub mod Computing

@@ -96,7 +96,7 @@ unfolding classesFrom
 length-from number k [] = refl
 length-from number k (f ∷ fs) = ap suc (length-from number (suc k) fs)
 
-length-program : (fs : List ClassFile) → length (programOf fs .classes) ≡ firstClass + length fs
+pub length-program : (fs : List ClassFile) → length (programOf fs .classes) ≡ firstClass + length fs
 unfolding programOf builtInsFrom builtIns
 length-program fs =
     length-append (builtInsFrom 0 builtIns) (classesFrom (numberIn (classNames fs)) firstClass fs)

@@ -3,6 +3,8 @@ pub mod bundle;
 pub mod descriptors;
 pub mod items;
 pub mod link;
+pub mod lookup;
 pub mod members;
 pub mod names;
 pub mod pool;
+pub mod signature;

@@ -19,7 +19,7 @@ ghost use Rattle.reader.specs.Linked.{parentsAt, parentsEnd, Parents, Cl
 ghost use Rattle.reader.specs.Numbers.{lowNames, highNames, builtInNames, bundleNames, otherName};
 
 // How many bytes of a block are tags.
-fn tags_end(b: &[u8]) -> usize
+pub fn tags_end(b: &[u8]) -> usize
     requires { ⌜ length (now b) ≡ blockSize ⌝ }
     ensures { λ r. ⌜ (take r (now (b .entry)) ≡ take (4 * word (now (b .entry)) poolWord) (now (b .entry))) × (r ≤ blockSize) ⌝ }
 {

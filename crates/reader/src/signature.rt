@@ -1,0 +1,107 @@
+// Members by name and descriptor: the rows of one class's block.
+use crate::items;
+use crate::link;
+use crate::names;
+use crate::pool;
+use crate::pool::Span;
+ghost use mathlib.Core.Path.{_≡_};
+ghost use Prim.Native.Nat.{_*_, _^_, _<_, _≤_};
+ghost use lib.ListN.{length};
+ghost use Rattle.reader.specs.Reading.{u2At};
+ghost use Rattle.reader.specs.Pool.{text};
+ghost use Rattle.reader.specs.Table.{IsText};
+ghost use Rattle.reader.specs.Program.{signature, indexOf};
+ghost use Rattle.reader.specs.Blocks.{blockSize, poolOf};
+ghost use Rattle.reader.specs.MemberRows.{blockAt, rowsWord, rowStart, rowCount, rowSigs, otherSig};
+
+// The text that the number at p names.
+pub fn text_at(s: &[u8], b: &[u8], p: usize) -> Span
+    requires { ⌜ length (now b) ≡ blockSize ⌝ }
+    ensures { λ r. ⌜ IsText (now (s .entry)) r (text (poolOf (now (s .entry)) (now (b .entry))) (u2At (now (s .entry)) p)) ⌝ }
+{
+    let e = link::tags_end(b);
+    pool::text_of(s, &b[0..e], items::u2_at(s, p))
+}
+
+// Where the rows of methods or of fields start.
+fn rows_word(method: bool) -> usize
+    ensures { λ r. ⌜ (r ≡ rowsWord method) × (r ≤ 1224) ⌝ }
+{
+    if method {
+        return 1224;
+    }
+    1032
+}
+
+// How many rows of methods or of fields there are.
+pub fn row_count(b: &[u8], method: bool) -> usize
+    ensures { λ r. ⌜ (r ≡ rowCount (now (b .entry)) method) × (r < 2 ^ 32) ⌝ }
+{
+    if method {
+        return kit::word(b, 1028) as usize;
+    }
+    kit::word(b, 1027) as usize
+}
+
+// Where the member of row j starts in the bundle.
+pub fn row_start(b: &[u8], method: bool, j: usize) -> usize
+    requires { ⌜ j < 2 ^ 32 ⌝ }
+    ensures { λ r. ⌜ (r ≡ rowStart (now (b .entry)) method j) × (r < 2 ^ 32) ⌝ }
+{
+    let w = rows_word(method);
+    kit::word(b, w + 6 * j) as usize
+}
+
+// Whether the member of row j has another name than x or another descriptor than y.
+fn other_row(s: &[u8], b: &[u8], method: bool, j: usize, x: &[u8], y: &[u8]) -> bool
+    requires { ⌜ (length (now b) ≡ blockSize) × (j < 2 ^ 32) ⌝ }
+    ensures { λ r. ⌜ r ≡ otherSig (now (s .entry)) (now (b .entry)) method (signature (now (x .entry)) (now (y .entry))) j ⌝ }
+{
+    let q = row_start(b, method, j);
+    let p = text_at(s, b, q + 2);
+    let f = p.start;
+    let g = p.end;
+    if !names::same_text(&s[f..g], x) {
+        return true;
+    }
+    let d = text_at(s, b, q + 4);
+    let h = d.start;
+    let k = d.end;
+    !names::same_text(&s[h..k], y)
+}
+
+// The first row of name x and descriptor y, or as many as there are.
+fn first_row(s: &[u8], b: &[u8], method: bool, x: &[u8], y: &[u8]) -> usize
+    requires { ⌜ length (now b) ≡ blockSize ⌝ }
+    ensures { λ r. ⌜ r ≡ indexOf (signature (now (x .entry)) (now (y .entry))) (rowSigs (now (s .entry)) (now (b .entry)) method) ⌝ }
+{
+    let n = row_count(b, method);
+    let mut i = 0;
+    while i < n {
+        if !other_row(s, b, method, i, x, y) {
+            return i;
+        }
+        i += 1;
+    }
+    i
+}
+
+// The same in block c.
+pub fn first_same(s: &[u8], t: &[u8], c: usize, method: bool, x: &[u8], y: &[u8]) -> usize
+    requires { ⌜ (c < 16) × (16 * blockSize ≤ length (now t)) ⌝ }
+    ensures { λ r. ⌜ r ≡ indexOf (signature (now (x .entry)) (now (y .entry))) (rowSigs (now (s .entry)) (blockAt (now (t .entry)) c) method) ⌝ }
+{
+    let a = 6432 * c;
+    let e = a + 6432;
+    first_row(s, &t[a..e], method, x, y)
+}
+
+// How many members block c has.
+pub fn member_count(t: &[u8], c: usize, method: bool) -> usize
+    requires { ⌜ (c < 16) × (16 * blockSize ≤ length (now t)) ⌝ }
+    ensures { λ r. ⌜ (r ≡ rowCount (blockAt (now (t .entry)) c) method) × (r < 2 ^ 32) ⌝ }
+{
+    let a = 6432 * c;
+    let e = a + 6432;
+    row_count(&t[a..e], method)
+}
