@@ -147,7 +147,7 @@ module _ (P : Program) (t : List ℕ) (x n : ℕ) (h : Parents P t x n) where
   counted : classCount (lineage t x n) ≡ classCount P
   counted = count-lineage t x n ∙ h .count
 
-  parented : (c : ℕ) → class (lineage t x n) c .parent ≡ class P c .parent
+  pub parented : (c : ℕ) → class (lineage t x n) c .parent ≡ class P c .parent
   parented c = go (side c n)
     where
       go : (c < n) ⊎ (n ≤ c) → class (lineage t x n) c .parent ≡ class P c .parent

@@ -24,6 +24,8 @@ pub mod Groups
 pub mod GroupLaws
 pub mod CallLaws
 pub mod FrameLaws
+pub mod Known
+pub mod KnownLaws
 pub mod Sites
 pub mod Verify
 pub mod Computing

@@ -1,5 +1,6 @@
 // Phases C and D. The definitions are in specs/.
 pub mod calls;
+pub mod dispatch;
 pub mod forms;
 pub mod frames;
 pub mod instruction;
