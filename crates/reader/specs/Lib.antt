@@ -31,4 +31,5 @@ pub mod Chains
 pub mod Linked
 pub mod MemberRows
 pub mod Lookup
+pub mod MemberAt
 pub mod Computing

@@ -5,6 +5,7 @@ use mathlib.Core.List.{List, [], _∷_}
 use mathlib.Core.Bool.{Bool, true, false, cond, not}
 use native.Mathlib.Nat.{zero-add}
 use native.Mathlib.Omega.{arith}
+use lib.Dec.{eqb}
 use lib.ListN.{length, getD, take, drop}
 use borrow.Author.Tests.{not-true, not-false}
 use Rattle.kit.specs.Lists.{eqList}
@@ -55,6 +56,10 @@ module _ (s b : List ℕ) (method : Bool) where
 
   unfoldable pub otherSig : Signature → ℕ → Bool
   otherSig g j = not (sameSignature (rowSig j) g)
+
+  -- no earlier one has its signature
+  unfoldable pub firstAt : ℕ → Bool
+  firstAt j = eqb (indexOf (rowSig j) rowSigs) j
 
   pub row-sig : (j : ℕ) → sigOf (rowAt j) ≡ rowSig j
   unfolding rowAt rowSig rowStart rowIn memberOf
@@ -139,3 +144,30 @@ index-block s t c method g r h = h ∙ ap (λ (b : List ℕ). indexOf g (rowSigs
 
 pub count-block : (t : List ℕ) (c : ℕ) (method : Bool) (r : ℕ) → r ≡ rowCount (take (6432 * c + 6432 - 6432 * c) (drop (6432 * c) t)) method → r ≡ rowCount (blockAt t c) method
 count-block t c method r h = h ∙ ap (λ (b : List ℕ). rowCount b method) (part-block t c)
+
+pub start-block : (t : List ℕ) (c : ℕ) (method : Bool) (j r : ℕ) → r ≡ rowStart (take (6432 * c + 6432 - 6432 * c) (drop (6432 * c) t)) method j → r ≡ rowStart (blockAt t c) method j
+start-block t c method j r h = h ∙ ap (λ (b : List ℕ). rowStart b method j) (part-block t c)
+
+module _ (s t : List ℕ) (c : ℕ) (method : Bool) (j q : ℕ) (e : q ≡ rowStart (take (6432 * c + 6432 - 6432 * c) (drop (6432 * c) t)) method j) (r : Span) where
+  pub name-block : IsText s r (text (poolOf s (take (6432 * c + 6432 - 6432 * c) (drop (6432 * c) t))) (u2At s (q + 2))) → IsText s r (rowSig s (blockAt t c) method j .name)
+  unfolding rowSig
+  name-block h =
+      subst (λ (b : List ℕ). IsText s r (text (poolOf s b) (u2At s (rowStart b method j + 2)))) (part-block t c)
+      (subst (λ (k : ℕ). IsText s r (text (poolOf s (take (6432 * c + 6432 - 6432 * c) (drop (6432 * c) t))) (u2At s (k + 2)))) e h)
+
+  pub descriptor-block : IsText s r (text (poolOf s (take (6432 * c + 6432 - 6432 * c) (drop (6432 * c) t))) (u2At s (q + 4))) → IsText s r (rowSig s (blockAt t c) method j .descriptor)
+  unfolding rowSig
+  descriptor-block h =
+      subst (λ (b : List ℕ). IsText s r (text (poolOf s b) (u2At s (rowStart b method j + 4)))) (part-block t c)
+      (subst (λ (k : ℕ). IsText s r (text (poolOf s (take (6432 * c + 6432 - 6432 * c) (drop (6432 * c) t))) (u2At s (k + 4)))) e h)
+
+-- a signature from its two parts
+pub sig-by : (s b : List ℕ) (method : Bool) (j : ℕ) (p d : Span) → IsText s p (rowSig s b method j .name) → IsText s d (rowSig s b method j .descriptor)
+    → signature (take (p .end - p .start) (drop (p .start) s)) (take (d .end - d .start) (drop (d .start) s)) ≡ rowSig s b method j
+unfolding rowSig
+sig-by s b method j p d h k = rw (h .is, k .is)
+
+pub first-by : (s b : List ℕ) (method : Bool) (j r : ℕ) (p d : Span) → IsText s p (rowSig s b method j .name) → IsText s d (rowSig s b method j .descriptor)
+    → r ≡ indexOf (signature (take (p .end - p .start) (drop (p .start) s)) (take (d .end - d .start) (drop (d .start) s))) (rowSigs s b method) → eqb r j ≡ firstAt s b method j
+unfolding firstAt
+first-by s b method j r p d h k e = ap (λ (i : ℕ). eqb i j) (e ∙ ap (λ (g : Signature). indexOf g (rowSigs s b method)) (sig-by s b method j p d h k))

@@ -12,7 +12,7 @@ ghost use Rattle.reader.specs.Pool.{text};
 ghost use Rattle.reader.specs.Table.{IsText};
 ghost use Rattle.reader.specs.Program.{signature, indexOf};
 ghost use Rattle.reader.specs.Blocks.{blockSize, poolOf};
-ghost use Rattle.reader.specs.MemberRows.{blockAt, rowsWord, rowStart, rowCount, rowSigs, otherSig};
+ghost use Rattle.reader.specs.MemberRows.{blockAt, rowsWord, rowStart, rowCount, rowSig, rowSigs, otherSig, firstAt};
 
 // The text that the number at p names.
 pub fn text_at(s: &[u8], b: &[u8], p: usize) -> Span
@@ -104,4 +104,48 @@ pub fn member_count(t: &[u8], c: usize, method: bool) -> usize
     let a = 6432 * c;
     let e = a + 6432;
     row_count(&t[a..e], method)
+}
+
+// Where member j of block c starts in the bundle.
+pub fn member_start(t: &[u8], c: usize, method: bool, j: usize) -> usize
+    requires { ⌜ (c < 16) × (16 * blockSize ≤ length (now t)) × (j < 2 ^ 32) ⌝ }
+    ensures { λ r. ⌜ (r ≡ rowStart (blockAt (now (t .entry)) c) method j) × (r < 2 ^ 32) ⌝ }
+{
+    let a = 6432 * c;
+    let e = a + 6432;
+    row_start(&t[a..e], method, j)
+}
+
+pub fn member_name(s: &[u8], t: &[u8], c: usize, method: bool, j: usize) -> Span
+    requires { ⌜ (c < 16) × (16 * blockSize ≤ length (now t)) × (j < 2 ^ 32) ⌝ }
+    ensures { λ r. ⌜ IsText (now (s .entry)) r (rowSig (now (s .entry)) (blockAt (now (t .entry)) c) method j .name) ⌝ }
+{
+    let a = 6432 * c;
+    let e = a + 6432;
+    let q = row_start(&t[a..e], method, j);
+    text_at(s, &t[a..e], q + 2)
+}
+
+pub fn member_descriptor(s: &[u8], t: &[u8], c: usize, method: bool, j: usize) -> Span
+    requires { ⌜ (c < 16) × (16 * blockSize ≤ length (now t)) × (j < 2 ^ 32) ⌝ }
+    ensures { λ r. ⌜ IsText (now (s .entry)) r (rowSig (now (s .entry)) (blockAt (now (t .entry)) c) method j .descriptor) ⌝ }
+{
+    let a = 6432 * c;
+    let e = a + 6432;
+    let q = row_start(&t[a..e], method, j);
+    text_at(s, &t[a..e], q + 4)
+}
+
+// Whether no earlier member of block c has member j's name and descriptor.
+pub fn is_first(s: &[u8], t: &[u8], c: usize, method: bool, j: usize) -> bool
+    requires { ⌜ (c < 16) × (16 * blockSize ≤ length (now t)) × (j < 2 ^ 32) ⌝ }
+    ensures { λ r. ⌜ r ≡ firstAt (now (s .entry)) (blockAt (now (t .entry)) c) method j ⌝ }
+{
+    let p = member_name(s, t, c, method, j);
+    let f = p.start;
+    let g = p.end;
+    let d = member_descriptor(s, t, c, method, j);
+    let h = d.start;
+    let k = d.end;
+    first_same(s, t, c, method, &s[f..g], &s[h..k]) == j
 }
