@@ -31,5 +31,6 @@ pub mod Chains
 pub mod Linked
 pub mod MemberRows
 pub mod Lookup
-pub mod MemberAt
+pub mod TypeCodes
+pub mod CodeLaws
 pub mod Computing

@@ -39,7 +39,7 @@ fn in_name(t: &[u8], i: usize) -> bool
 }
 
 // The first ; from q on, or the length.
-fn semicolon(t: &[u8], q: usize) -> usize
+pub fn semicolon(t: &[u8], q: usize) -> usize
     ensures { λ r. ⌜ r ≡ semicolon (now (t .entry)) q ⌝ }
 {
     let mut i = q;
@@ -71,7 +71,7 @@ fn named(t: &[u8], p: usize, q: usize, z: usize) -> Got
 }
 
 // The byte at q is b, which is not 0: so it stands inside the text.
-fn is_at(t: &[u8], q: usize, b: usize) -> bool
+pub fn is_at(t: &[u8], q: usize, b: usize) -> bool
     requires { ⌜ 0 < b ⌝ }
     ensures { λ r. ⌜ (r ≡ eqb (getD (now (t .entry)) q 0) b) × (r ≡ true → q < length (now (t .entry))) ⌝ }
 {
