@@ -11,9 +11,9 @@ use Rattle.verifier.specs.Instruction.{FieldRef, MethodRef}
 use Rattle.verifier.specs.Resolve.{Resolved, nothing, number, type, field, methodOf, found}
 use Rattle.verifier.specs.TypeCodes.{codeDesc, codeRef}
 
--- a field's: type code (256), named (32), owner (32), slot (512)
+-- a field's: type code (256), named (32), owner (32), slot (1024)
 abbrev pub fieldIn : ℕ → FieldRef
-fieldIn w = record { named = w / 2048 % 32; owner = w / 65536 % 32; slot = w / 2097152 % 512; type = codeDesc (w / 8 % 256) }
+fieldIn w = record { named = w / 2048 % 32; owner = w / 65536 % 32; slot = w / 2097152 % 1024; type = codeDesc (w / 8 % 256) }
 
 -- a method's: named (32), owner (32), index (64), then 1 for static, 1 for a constructor
 abbrev pub methodIn : ℕ → MethodRef
