@@ -31,6 +31,7 @@ pub mod Chains
 pub mod Linked
 pub mod MemberRows
 pub mod Lookup
+pub mod MemberAt
 pub mod TypeCodes
 pub mod CodeLaws
 pub mod Computing

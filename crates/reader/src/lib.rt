@@ -6,6 +6,7 @@ pub mod link;
 pub mod lookup;
 pub mod members;
 pub mod names;
+pub mod overriding;
 pub mod pool;
 pub mod signature;
 pub mod types;
