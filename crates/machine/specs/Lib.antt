@@ -9,3 +9,6 @@ pub mod IntegerLaws
 pub mod HeapLaws
 pub mod ValueLaws
 pub mod Objects
+pub mod Windows
+pub mod Turns
+pub mod WindowForms

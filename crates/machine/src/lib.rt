@@ -1,5 +1,7 @@
 // The plain machine. The definitions are in specs/.
+pub mod forms;
 pub mod heap;
 pub mod integers;
 pub mod objects;
 pub mod values;
+pub mod window;

@@ -1,0 +1,30 @@
+use native.Mathlib.Omega.{arith}
+use Rattle.kit.specs.Scan.{tested}
+use Rattle.kit.specs.Pick.{picks}
+use Rattle.machine.specs.Turns.{turns, sized-low}
+use Rattle.machine.specs.WindowForms.{onTop, twoInts, inLocal, steps, theres}
+use borrow.Author.Needs.{needs}
+use Rattle.machine.proofs.forms.constant.Statement.{statement}
+use Rattle.machine.proofs.forms.constant.Tie as tie
+use Rattle.machine.proofs.forms.constant.Reads as reads
+use Rattle.machine.proofs.forms.constant.Lts as lts
+use Rattle.machine.proofs.values.Value.num.Reads as num-reads
+use Rattle.machine.proofs.window.push.Reads as push-reads
+
+num-requires : tie.Need-num-requires
+num-requires c κs = search needs
+
+push-requires : tie.Need-push-requires
+push-requires c κs = search needs
+
+same-length : tie.Need-same-length
+same-length c = search needs
+
+same-length-2 : tie.Need-same-length-2
+same-length-2 c = search needs
+
+returns : tie.Need-returns
+returns c = search steps depth 8
+
+pub constant-spec : {M : Type 1} → statement M
+constant-spec = tie.close (tie.spec num-requires push-requires same-length same-length-2 returns)

@@ -1,0 +1,20 @@
+use native.Mathlib.Omega.{arith}
+use Rattle.kit.specs.Scan.{tested}
+use Rattle.kit.specs.Pick.{picks}
+use Rattle.machine.specs.Turns.{turns, sized-low}
+use Rattle.machine.specs.WindowForms.{onTop, twoInts, inLocal, steps, theres}
+use borrow.Author.Needs.{needs}
+use Rattle.machine.proofs.forms.jump.Statement.{statement}
+use Rattle.machine.proofs.forms.jump.Tie as tie
+use Rattle.machine.proofs.forms.jump.Reads as reads
+use Rattle.machine.proofs.forms.jump.Lts as lts
+use Rattle.machine.proofs.window.go.Reads as go-reads
+
+go-requires : tie.Need-go-requires
+go-requires c κs = search needs
+
+returns : tie.Need-returns
+returns c = search steps depth 8
+
+pub jump-spec : {M : Type 1} → statement M
+jump-spec = tie.close (tie.spec go-requires returns)

@@ -1,0 +1,30 @@
+use native.Mathlib.Omega.{arith}
+use Rattle.kit.specs.Scan.{tested}
+use Rattle.kit.specs.Pick.{picks}
+use Rattle.machine.specs.Turns.{turns, sized-low}
+use Rattle.machine.specs.WindowForms.{onTop, twoInts, inLocal, steps, theres}
+use borrow.Author.Needs.{needs}
+use Rattle.machine.proofs.forms.null.Statement.{statement}
+use Rattle.machine.proofs.forms.null.Tie as tie
+use Rattle.machine.proofs.forms.null.Reads as reads
+use Rattle.machine.proofs.forms.null.Lts as lts
+use Rattle.machine.proofs.values.Value.reference.Reads as reference-reads
+use Rattle.machine.proofs.window.push.Reads as push-reads
+
+reference-requires : tie.Need-reference-requires
+reference-requires c κs = search needs
+
+push-requires : tie.Need-push-requires
+push-requires c κs = search needs
+
+same-length : tie.Need-same-length
+same-length c = search needs
+
+same-length-2 : tie.Need-same-length-2
+same-length-2 c = search needs
+
+returns : tie.Need-returns
+returns c = search steps depth 8
+
+pub null-spec : {M : Type 1} → statement M
+null-spec = tie.close (tie.spec reference-requires push-requires same-length same-length-2 returns)

@@ -1,0 +1,52 @@
+use native.Mathlib.Omega.{arith}
+use Rattle.kit.specs.Scan.{tested}
+use Rattle.kit.specs.Pick.{picks}
+use Rattle.machine.specs.Turns.{turns, sized-low}
+use Rattle.machine.specs.WindowForms.{onTop, twoInts, inLocal, steps, theres}
+use borrow.Author.Needs.{needs}
+use Rattle.machine.proofs.window.put_local.Statement.{statement}
+use Rattle.machine.proofs.window.put_local.Tie as tie
+use Rattle.machine.proofs.window.put_local.Reads as reads
+use Rattle.machine.proofs.window.put_local.Lts as lts
+use Rattle.machine.proofs.window.stuck.Reads as stuck-reads
+
+stuck-requires : tie.Need-stuck-requires
+stuck-requires c κs = search needs
+
+returns : tie.Need-returns
+returns c = search turns
+
+returns-2 : tie.Need-returns-2
+returns-2 c = search turns
+
+mul-w : tie.Need-mul-w
+mul-w c = search needs
+
+slice-write-w : tie.Need-slice-write-w
+slice-write-w c = search needs
+
+slice-write-g : tie.Need-slice-write-g
+slice-write-g c = search needs
+
+same-length : tie.Need-same-length
+same-length c = search needs
+
+same-length-2 : tie.Need-same-length-2
+same-length-2 c = search needs
+
+returns-3 : tie.Need-returns-3
+returns-3 c = search turns
+
+pub put-local-spec : {M : Type 1} → statement M
+put-local-spec =
+    tie.close
+    (tie.spec
+    stuck-requires
+    returns
+    returns-2
+    mul-w
+    slice-write-w
+    slice-write-g
+    same-length
+    same-length-2
+    returns-3)
