@@ -203,10 +203,9 @@ module _ (P : Program) (M : Method) (t : List ℕ) (x n : ℕ) (p : Parents P t 
   known : rule P M o (instrOf i) (state g l s) ≡ instrRule Q F o i (state g l s)
   known = rule-known P Q M F (parented P t x n p) o i g l s h
 
-  pub asked-known : (most r : ℕ) → is r ≡ verdict (instrClaims Q most F o i (state g l s)) → is r ≡ verdict (operandClaims P most s (rule P M o (instrOf i) (state g l s)))
-  asked-known most r e =
-      e ∙ claims-known Q most F o i g l s
-      ∙ ap (λ (R : Rule). verdict (operandClaims Q most s R)) (sym known)
+  pub verdict-known : (most : ℕ) → verdict (instrClaims Q most F o i (state g l s)) ≡ verdict (operandClaims P most s (rule P M o (instrOf i) (state g l s)))
+  verdict-known most =
+      claims-known Q most F o i g l s ∙ ap (λ (R : Rule). verdict (operandClaims Q most s R)) (sym known)
       ∙ ap (λ (cs : List (Claim ℕ)). verdict (claim 15 (leb (length (R₀ .takes)) (length s)) ∷ (cs ++ (R₀ .asks ++ (claim 15 (leb (length (stack (R₀ .after))) most) ∷ [])))))
       (operands-same Q P (fits-lineage P t x n p) 0 (R₀ .takes) s)
     where

@@ -27,6 +27,8 @@ pub mod FrameLaws
 pub mod Known
 pub mod KnownLaws
 pub mod Sites
+pub mod Handlers
+pub mod StepClaims
 pub mod Verify
 pub mod Computing
 pub mod Laws

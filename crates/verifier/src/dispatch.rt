@@ -1,15 +1,24 @@
 // Every instruction: what is asked of it, the state that it leaves, and whether handlers see less.
 ghost use mathlib.Core.Path.{_≡_};
+ghost use mathlib.Core.List.{[], _∷_};
 ghost use Prim.Native.Nat.{_+_, _≤_, _/_};
 ghost use lib.ListN.{length};
 ghost use Rattle.kit.specs.Claims.{is, verdict};
+ghost use Rattle.verifier.specs.Instruction.{targets, falls};
+ghost use Rattle.verifier.specs.InstructionWords.{branchOf};
+ghost use Rattle.verifier.specs.Walk.{branchClaims};
 ghost use Rattle.verifier.specs.Ancestry.{lineage};
 ghost use Rattle.verifier.specs.Slots.{held, Placed, Roomy, Outside};
 ghost use Rattle.verifier.specs.Forms.{Kept};
+ghost use Rattle.verifier.specs.FrameRows.{framesOf, Laid};
+ghost use Rattle.verifier.specs.StepClaims.{targetsOf, fallsOf};
 ghost use Rattle.verifier.specs.Known.{factsOf, instrClaims, instrAfter, callHides, hides};
 use crate::calls::Known;
 use crate::calls::ask_any;
 use crate::calls::leave_any;
+use crate::frames::Rows;
+use crate::frames::into_frame;
+use crate::instruction::Branch;
 use crate::instruction::Call;
 use crate::instruction::Instr;
 use crate::slots::Held;
@@ -88,5 +97,66 @@ pub fn hides(i: Instr) -> bool
         Instr::Calling(j) => hides_call(j),
         Instr::Illegal => false,
         Instr::Unresolved => false,
+    }
+}
+
+// ---- Where control goes.
+
+fn falls_branch(b: Branch) -> bool
+    ensures { λ r. ⌜ r ≡ falls (branchOf b) ⌝ }
+{
+    match b {
+        Branch::Goto(_) => false,
+        Branch::Ifint(_, _) => true,
+        Branch::Ificmp(_, _) => true,
+        Branch::Ifacmp(_, _) => true,
+        Branch::Ifnull(_, _) => true,
+    }
+}
+
+// Whether control may fall to the next instruction.
+pub fn falls_on(i: Instr) -> bool
+    ensures { λ r. ⌜ r ≡ fallsOf i ⌝ }
+{
+    match i {
+        Instr::Simple(_) => true,
+        Instr::Jump(j) => falls_branch(j),
+        Instr::OnLocal(_) => true,
+        Instr::OnStack(_) => true,
+        Instr::Leaving(_) => false,
+        Instr::New(_) => true,
+        Instr::Calling(_) => true,
+        Instr::Illegal => true,
+        Instr::Unresolved => true,
+    }
+}
+
+fn target(b: Branch) -> u16
+    ensures { λ r. ⌜ r ∷ [] ≡ targets (branchOf b) ⌝ }
+{
+    match b {
+        Branch::Goto(o) => o,
+        Branch::Ifint(_, o) => o,
+        Branch::Ificmp(_, o) => o,
+        Branch::Ifacmp(_, o) => o,
+        Branch::Ifnull(_, o) => o,
+    }
+}
+
+// The state after goes to the frame of its target, where it has one.
+pub fn jump(t: &[u8], kin: Kin, f: Rows, h: Held, i: Instr) -> u32
+    requires { ⌜ Laid (now t) f × Placed (now t) h ⌝ }
+    ensures { λ r. ⌜ is r ≡ verdict (branchClaims (lineage (now (t .entry)) (kin .at) (kin .count)) (framesOf (now (t .entry)) f) (held (now (t .entry)) h) (targetsOf i)) ⌝ }
+{
+    match i {
+        Instr::Simple(_) => 0,
+        Instr::Jump(j) => into_frame(t, kin, f, h, target(j) as usize),
+        Instr::OnLocal(_) => 0,
+        Instr::OnStack(_) => 0,
+        Instr::Leaving(_) => 0,
+        Instr::New(_) => 0,
+        Instr::Calling(_) => 0,
+        Instr::Illegal => 0,
+        Instr::Unresolved => 0,
     }
 }

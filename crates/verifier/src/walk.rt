@@ -1,0 +1,72 @@
+// The walk over a method's code: one instruction after another, by offset.
+ghost use mathlib.Core.Path.{_≡_};
+ghost use Prim.Native.Nat.{_+_, _*_, _<_, _≤_, _/_};
+ghost use lib.ListN.{length};
+ghost use Rattle.kit.specs.Claims.{is, verdict};
+ghost use Rattle.reader.specs.Attributes.{handlersFrom};
+ghost use Rattle.reader.specs.BuiltIns.{firstClass};
+ghost use Rattle.verifier.specs.Ancestry.{lineage};
+ghost use Rattle.verifier.specs.Slots.{held, Roomy, Outside};
+ghost use Rattle.verifier.specs.FrameRows.{framesOf, Laid};
+ghost use Rattle.verifier.specs.Handlers.{catchIn};
+ghost use Rattle.verifier.specs.Known.{factsOf, instrAfter};
+ghost use Rattle.verifier.specs.StepClaims.{stepBy, Going};
+use crate::calls::Known;
+use crate::dispatch::ask;
+use crate::dispatch::hides;
+use crate::dispatch::jump;
+use crate::dispatch::leave;
+use crate::frames::Rows;
+use crate::handlers::all_handlers;
+use crate::instruction::Instr;
+use crate::site::Site;
+use crate::slots::Held;
+use crate::slots::peek;
+use crate::types::Kin;
+
+// A refusal, 0 for none, and where none the state that goes on.
+pub struct Step {
+    pub refusal: u32,
+    pub held: Held,
+}
+
+// All that is asked of the instruction i at o in the state h; where nothing is refused, the state after it.
+fn one_step(
+    s: &[u8],
+    t: &mut [u8],
+    x: Site,
+    kin: Kin,
+    f: Rows,
+    h: Held,
+    i: Instr,
+    k: Known,
+    o: u16,
+) -> Step
+    requires { ⌜ Roomy (now t) h × (h .depth ≤ 32) × (k .args .at + k .args .count ≤ length (now t) / 4) × Laid (now t) f × (kin .at + kin .count ≤ h .at) × (f .at + 68 * f .count ≤ h .at) × (x .classes ≤ 16) × (x .stack ≤ 32) × (x .table + 8 * x .entries ≤ length (now s)) ⌝ }
+    ensures says { λ r. ⌜ is (r .refusal) ≡ verdict (stepBy (lineage (now (t .entry)) (kin .at) (kin .count)) (catchIn (now (t .entry)) (x .class) (firstClass + x .classes)) (framesOf (now (t .entry)) f) (handlersFrom (now (s .entry)) (x .entries) (x .table)) (x .stack) (factsOf (now (t .entry)) k) o i (held (now (t .entry)) h)) ⌝ }
+    ensures leaves { λ r. ⌜ (r .refusal ≡ 0 → held (now (t .exit)) (r .held) ≡ instrAfter (factsOf (now (t .entry)) k) o i (held (now (t .entry)) h)) ⌝ }
+    ensures keeps { λ r. ⌜ Going h (r .held) × Outside (h .at) (now (t .entry)) (now (t .exit)) ⌝ }
+{
+    let a = ask(t, kin, h, i, k, o, x.stack);
+    if a != 0 {
+        return Step {
+            refusal: a,
+            held: h,
+        };
+    }
+    let args = k.args;
+    let key = peek(t, h, args.count);
+    let b = all_handlers(s, t, x, kin, f, h, hides(i), key, o as usize);
+    if b != 0 {
+        return Step {
+            refusal: b,
+            held: h,
+        };
+    }
+    let g = leave(t, h, i, k, o);
+    let e = jump(t, kin, f, g, i);
+    Step {
+        refusal: e,
+        held: g,
+    }
+}
