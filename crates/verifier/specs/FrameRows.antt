@@ -1,5 +1,6 @@
 -- Frames in a table of words: a row of 68 words each, a state's 64 slots first, then offset, depth and flag.
-use Prim.Native.Nat.{ℕ, zero, suc, _+_, _*_, _/_, _%_, _≤_}
+use Prim.Native.Nat.{ℕ, zero, suc, _+_, _*_, _/_, _%_, _<_, _≤_}
+use mathlib.Core.Path.{_≡_}
 use mathlib.Core.Bool.{cond}
 use mathlib.Core.List.{List, [], _∷_}
 use mathlib.Core.Option.{Option, none, some}
@@ -25,10 +26,15 @@ framesAt t n x (suc k) = frame (word t (x + 64)) (held t (rowHeld t n x)) ∷ fr
 abbrev pub framesOf : List ℕ → Rows → List Frame
 framesOf t f = framesAt t (f .locals) (f .at) (f .count)
 
--- they lie in the table
+-- the offset of row i
+abbrev pub offsetAt : List ℕ → Rows → ℕ → ℕ
+offsetAt t f i = word t (f .at + 68 * i + 64)
+
+-- they lie in the table, by rising offsets
 pub record Laid (t : List ℕ) (f : Rows) : Type 0 where
   pub inside : f .at + 68 * f .count + 68 ≤ length t / 4
   pub locals : f .locals ≤ 32
+  pub rising : (i j : ℕ) → i < j → j < f .count → offsetAt t f i < offsetAt t f j
 
 -- what was looked up
 abbrev pub standing : List ℕ → Standing → Option State
@@ -37,3 +43,8 @@ standing t s = cond (s .there) (some (held t (s .held))) none
 pub record Sound (t : List ℕ) (h : Held) : Type 0 where
   pub placed : Placed t h
   pub depth : h .depth ≤ 32
+
+-- it is one of these rows, or the place behind them
+pub record Among (f : Rows) (h : Held) : Type 0 where
+  pub end : h .at + 68 ≤ f .at + 68 * f .count + 68
+  pub locals : h .locals ≡ f .locals

@@ -26,7 +26,7 @@ use Rattle.verifier.specs.Ancestry.{lineage, childrenAt, Parents}
 use Rattle.verifier.specs.Slots.{stackAt, localsAt, held, veil, Outside}
 use Rattle.verifier.specs.SlotLaws.{length-stack, locals-same, stack-same, slot-word}
 use Rattle.verifier.specs.Forms.{Kept}
-use Rattle.verifier.specs.FrameRows.{framesAt, framesOf, rowHeld}
+use Rattle.verifier.specs.FrameRows.{framesAt, framesOf, rowHeld, offsetAt, Laid}
 use Rattle.verifier.specs.Handlers.{handlersBy, handlers-lineage, branches-lineage}
 use Rattle.verifier.specs.Known.{Facts, instrClaims, instrAfter, instrRule, hides}
 use Rattle.verifier.specs.KnownLaws.{Told, claims-known, after-known, left-known, seen-known, verdict-known}
@@ -309,3 +309,13 @@ pub going-on : (L : Program) (most : ℕ) (F : Facts) (o : ℕ) (i : code.Instr)
     → (h r : Held) (u : List ℕ) → Kept h r → held u r ≡ instrAfter F o i S → Going h r
 going-on L most F o i S a p z l h r u k e =
     record { at = k .at; locals = k .locals; depth = omega (arith, room-after L most F o i S a p z (held u r) e, length-stack u (r .at + 32) (r .depth)) }
+
+pub laid-outside : (x : ℕ) (t u : List ℕ) (f : Rows) → Outside x t u → f .at + 68 * f .count ≤ x → length u ≡ length t → Laid t f → Laid u f
+laid-outside x t u f h l e p = record {
+  inside = let i = p .inside in omega arith;
+  locals = p .locals;
+  rising = λ i j a b.
+      let y : offsetAt u f i ≡ offsetAt t f i = h .kept (f .at + 68 * i + 64) (inl (omega arith)) in
+      let z : offsetAt u f j ≡ offsetAt t f j = h .kept (f .at + 68 * j + 64) (inl (omega arith)) in
+      rw (y, z) (p .rising i j a b);
+}

@@ -11,7 +11,7 @@ ghost use Rattle.verifier.specs.Walk.{frameAt, intoFrame};
 ghost use Rattle.verifier.specs.TypeWords.{typeOf};
 ghost use Rattle.verifier.specs.Ancestry.{lineage};
 ghost use Rattle.verifier.specs.Slots.{held, localsOf, veil, Placed};
-ghost use Rattle.verifier.specs.FrameRows.{rowHeld, framesOf, Laid, standing, Sound};
+ghost use Rattle.verifier.specs.FrameRows.{rowHeld, framesOf, Laid, Among, standing, Sound};
 use crate::slots::Held;
 use crate::slots::{self};
 use crate::types::Kin;
@@ -45,25 +45,30 @@ fn row(t: &[u8], n: usize, x: usize) -> Held
     }
 }
 
-// The frame at the offset o.
+// The frame at the offset o, by halves: rows stand by rising offsets.
 pub fn find(t: &[u8], f: Rows, o: usize) -> Standing
     requires { ⌜ Laid (now t) f ⌝ }
-    ensures { λ r. ⌜ (standing (now (t .entry)) r ≡ frameAt (framesOf (now (t .entry)) f) o) × Sound (now (t .entry)) (r .held) ⌝ }
+    ensures { λ r. ⌜ (standing (now (t .entry)) r ≡ frameAt (framesOf (now (t .entry)) f) o) × Sound (now (t .entry)) (r .held) × Among f (r .held) ⌝ }
 {
-    let mut x = f.at;
-    let mut left = f.count;
-    while 0 < left {
-        if kit::word(t, x + 64) as usize == o {
-            let h = row(t, f.locals, x);
+    let mut low = 0;
+    let mut high = f.count;
+    while low < high {
+        let mid = low + (high - low) / 2;
+        let w = kit::word(t, f.at + 68 * mid + 64) as usize;
+        if w == o {
+            let h = row(t, f.locals, f.at + 68 * mid);
             return Standing {
                 there: true,
                 held: h,
             };
         }
-        x += 68;
-        left -= 1;
+        if w < o {
+            low = mid + 1;
+        } else {
+            high = mid;
+        }
     }
-    let h = row(t, f.locals, x);
+    let h = row(t, f.locals, f.at);
     Standing {
         there: false,
         held: h,

@@ -1,5 +1,5 @@
 use Rattle.verifier.specs.Known.{factsOf}
-use Rattle.verifier.specs.StepClaims.{step-ask, step-hand, step-jump, hand-via, jump-outside, going-same, going-on}
+use Rattle.verifier.specs.StepClaims.{step-ask, step-hand, step-jump, hand-via, jump-outside, laid-outside, going-same, going-on}
 use Rattle.verifier.specs.SlotLaws.{length-stack, outside-none}
 use mathlib.Core.Path.{refl, sym}
 use native.Mathlib.Omega.{arith}
@@ -53,7 +53,7 @@ leave-requires c κs = search needs
 
 -- src/walk.rt:67:9
 jump-requires : tie.Need-jump-requires
-jump-requires c κs = search needs
+jump-requires c κs = (laid-outside _ _ _ _ (c .before .before .before .leave .ensures .2) (c .before .before .before .before .before .before .before .before .before .before .before .before .before .before .before .before .before .pre .5) (c .before .before .before .leave .kept .0) (c .before .before .before .before .before .before .before .before .before .before .before .before .before .before .before .before .before .pre .3), search needs)
 
 -- src/walk.rt:34:1
 same-length-3 : tie.Need-same-length-3
