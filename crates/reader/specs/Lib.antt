@@ -34,4 +34,5 @@ pub mod Lookup
 pub mod MemberAt
 pub mod TypeCodes
 pub mod CodeLaws
+pub mod Access
 pub mod Computing

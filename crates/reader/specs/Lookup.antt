@@ -77,11 +77,11 @@ module _ (s : List ℕ) (n : ℕ) (t : List ℕ) (m : n ≤ 16) where
       ∙ ap (map (λ (x : Field). x .sig)) (map-listed (fieldOf numberOf) (λ i. rowIn s (poolOf s (blockAt t c)) (blockAt t c) (fieldRows + 6 * i)) (word (blockAt t c) fieldCount))
       ∙ map-listed (λ (x : Field). x .sig) (λ i. fieldOf numberOf (rowIn s (poolOf s (blockAt t c)) (blockAt t c) (fieldRows + 6 * i))) (word (blockAt t c) fieldCount)
 
-  count : length (programOf (filesIn s n t) .classes) ≡ firstClass + n
-  count = length-program (filesIn s n t) ∙ ap (λ (k : ℕ). firstClass + k) (ap (λ (fs : List ClassFile). length fs) (files-front s t n m) ∙ counted s t n)
+  pub class-count : length (programOf (filesIn s n t) .classes) ≡ firstClass + n
+  class-count = length-program (filesIn s n t) ∙ ap (λ (k : ℕ). firstClass + k) (ap (λ (fs : List ClassFile). length fs) (files-front s t n m) ∙ counted s t n)
 
   pub class-past : (c : ℕ) → firstClass + n ≤ c → class (programOf (filesIn s n t)) c ≡ noClass
-  class-past c h = List·getD-eq-default (programOf (filesIn s n t) .classes) noClass (rw count h)
+  class-past c h = List·getD-eq-default (programOf (filesIn s n t) .classes) noClass (rw class-count h)
 
   -- the code's answer for a class of the bundle, and past it
   pub own-high : (method : Bool) (g : Signature) (c i k : ℕ) → 11 ≤ c → c < 11 + n → i ≡ indexOf g (rowSigs s (blockAt t (c - 11)) method) → k ≡ rowCount (blockAt t (c - 11)) method
@@ -184,4 +184,4 @@ module _ (P : Program) (sigs : Class → List Signature) (g : Signature) (left c
 pub seek-start : (s : List ℕ) (n : ℕ) (t : List ℕ) (m : n ≤ 16) (sigs : Class → List Signature) (g : Signature) (from : ℕ)
     → seek (programOf (filesIn s n t)) sigs g (11 + n) from ≡ lookup (programOf (filesIn s n t)) sigs g from
 unfolding lookup
-seek-start s n t m sigs g from = ap (λ (k : ℕ). seek (programOf (filesIn s n t)) sigs g k from) (sym (count s n t m))
+seek-start s n t m sigs g from = ap (λ (k : ℕ). seek (programOf (filesIn s n t)) sigs g k from) (sym (class-count s n t m))

@@ -5,7 +5,7 @@ use mathlib.Core.List.{List, [], _∷_}
 use mathlib.Core.Bool.{Bool, true, false, not, Bool·beq}
 use native.Mathlib.Omega.{arith}
 use lib.Dec.{eqb}
-use lib.ListN.{getD, take, drop, List·getD-eq-default}
+use lib.ListN.{length, getD, take, drop, List·getD-eq-default}
 use borrow.Author.Tests.{not-true, not-false}
 use Rattle.kit.specs.Words.{word}
 use Rattle.reader.specs.Reading.{u2At}
@@ -47,6 +47,12 @@ module _ (s : List ℕ) (n : ℕ) (t : List ℕ) (m : n ≤ 16) (c : ℕ) (h : c
   methods-are =
       ap (λ (C : Class). C .methods) (class-at s n t m c h)
       ∙ map-listed (methodOf (numberAs s n t) (firstClass + c)) (λ i. rowIn s (poolOf s b) b (methodRows + 6 * i)) (word b methodCount)
+
+  pub fields-count : length (class P (firstClass + c) .fields) ≡ rowCount b false
+  fields-count = ap (λ (fs : List Field). length fs) fields-are ∙ length-listed (λ i. fieldOf (numberAs s n t) (rowAt s b false i)) (rowCount b false)
+
+  pub methods-count : length (class P (firstClass + c) .methods) ≡ rowCount b true
+  methods-count = ap (λ (ms : List Method). length ms) methods-are ∙ length-listed (λ i. methodOf (numberAs s n t) (firstClass + c) (rowAt s b true i)) (rowCount b true)
 
   pub field-at : (j : ℕ) → j < rowCount b false → getD (class P (firstClass + c) .fields) j noField ≡ fieldOf (numberAs s n t) (rowAt s b false j)
   field-at j l =

@@ -38,7 +38,7 @@ descOf c = nested (c % 8) (baseOf (c / 8))
 
 -- of a code that is not int's
 unfoldable pub refIn : Desc → Ref
-refIn dint = cls 0
+refIn dint = cls intBase
 refIn (dref r) = r
 
 unfoldable pub refOf : ℕ → Ref

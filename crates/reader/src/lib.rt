@@ -1,4 +1,5 @@
 // Phases A and B: bytes to a program. The definitions are in specs/.
+pub mod access;
 pub mod bundle;
 pub mod descriptors;
 pub mod items;

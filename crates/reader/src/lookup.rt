@@ -49,7 +49,7 @@ fn built_in_own(c: usize, method: bool, x: &[u8], y: &[u8]) -> Hit
 }
 
 // The member of name x and descriptor y that class c itself has.
-fn own(s: &[u8], t: &[u8], n: usize, c: usize, method: bool, x: &[u8], y: &[u8]) -> Hit
+pub fn own(s: &[u8], t: &[u8], n: usize, c: usize, method: bool, x: &[u8], y: &[u8]) -> Hit
     requires { ⌜ (n ≤ 16) × (16 * blockSize ≤ length (now t)) ⌝ }
     ensures { λ r. ⌜ hitOf r ≡ ownSpot (programOf (filesIn (now (s .entry)) n (now (t .entry)))) (sigsOf method) (signature (now (x .entry)) (now (y .entry))) c ⌝ }
 {
