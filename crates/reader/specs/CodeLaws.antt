@@ -220,7 +220,7 @@ module _ (s : List ℕ) (n w k : ℕ) (t u : List ℕ) (h : Aside w k t u) (l : 
   pub result-moved : (R : Res (List Desc)) (x : Text) (q : ℕ) → R ≡ resultsAt (numberBy s n u) x 0 q → R ≡ resultsAt (numberBy s n t) x 0 q
   result-moved R x q e = e ∙ ap (λ (f : Text → ℕ). resultsAt f x 0 q) number-moved
 
-codes-same : (t u : List ℕ) (w n : ℕ) → ((i : ℕ) → i < n → getD u (w + i) 0 ≡ getD t (w + i) 0) → codesIn u w n ≡ codesIn t w n
+pub codes-same : (t u : List ℕ) (w n : ℕ) → ((i : ℕ) → i < n → getD u (w + i) 0 ≡ getD t (w + i) 0) → codesIn u w n ≡ codesIn t w n
 unfolding codesIn
 codes-same t u w n h =
     listed-same (λ i. descOf (getD u (w + i) 0)) (λ i. descOf (getD t (w + i) 0)) n (λ i l. ap descOf (h i l))

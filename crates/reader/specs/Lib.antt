@@ -35,4 +35,7 @@ pub mod MemberAt
 pub mod TypeCodes
 pub mod CodeLaws
 pub mod Access
+pub mod MemberClaims
+pub mod MethodTypes
+pub mod MemberPass
 pub mod Computing

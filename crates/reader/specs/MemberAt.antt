@@ -77,6 +77,10 @@ module _ (s : List ℕ) (n : ℕ) (t : List ℕ) (m : n ≤ 16) (c : ℕ) (h : c
   unfolding methodOf
   method-sig j l = ap (λ (M : Method). M .sig) (method-at j l) ∙ row-sig s b true j
 
+  pub field-sig : (j : ℕ) → j < rowCount b false → getD (class P (firstClass + c) .fields) j noField .sig ≡ rowSig s b false j
+  unfolding fieldOf
+  field-sig j l = ap (λ (F : Field). F .sig) (field-at j l) ∙ row-sig s b false j
+
   -- the method above, from what the code found
   pub above-by : (j up : ℕ) (p d : Span) (r : Hit) → j < rowCount b true → IsText s p (rowSig s b true j .name) → IsText s d (rowSig s b true j .descriptor) → up ≡ class P (firstClass + c) .parent
       → hitOf r ≡ lookup P methodSigs (signature (take (p .end - p .start) (drop (p .start) s)) (take (d .end - d .start) (drop (d .start) s))) up

@@ -4,6 +4,7 @@ pub mod bundle;
 pub mod descriptors;
 pub mod items;
 pub mod link;
+pub mod linking;
 pub mod lookup;
 pub mod members;
 pub mod names;
