@@ -38,4 +38,6 @@ pub mod Access
 pub mod MemberClaims
 pub mod MethodTypes
 pub mod MemberPass
+pub mod FileLimits
+pub mod Whole
 pub mod Computing

@@ -47,7 +47,7 @@ pub record TypesTo (s : List ℕ) (n : ℕ) (t : List ℕ) (k : ℕ) : Type 0 wh
 
 -- ---- what stands in front stays
 module _ (t u : List ℕ) (h : Front t u) where
-  front-take : (a : ℕ) → a ≤ typesAt → take a u ≡ take a t
+  pub front-take : (a : ℕ) → a ≤ typesAt → take a u ≡ take a t
   front-take a l = sym (take-take a typesAt u l) ∙ ap (take a) (h .same) ∙ take-take a typesAt t l
 
   pub front-block : (c : ℕ) → c < 16 → blockAt u c ≡ blockAt t c
@@ -63,12 +63,16 @@ module _ (t u : List ℕ) (h : Front t u) where
   pub front-program : (s : List ℕ) (n : ℕ) → programOf (filesIn s n u) ≡ programOf (filesIn s n t)
   front-program s n = ap programOf (front-files s n)
 
+  pub front-parents : (s : List ℕ) (n : ℕ) → n ≤ 16 → Parents s n t → Parents s n u
+  front-parents s n m p =
+      record { at = λ c l. kept-word 42144 t u (h .same) (parentsWord + c) (omega arith) ∙ p .at c l ∙ ap (λ (P : Program). class P c .parent) (sym (front-program s n)) }
+
   pub front-ready : (s : List ℕ) (n : ℕ) → Ready s n t → Ready s n u
   front-ready s n r = record {
     most = r .most;
     long = omega (arith, h .long, r .long);
     few = λ c l method. subst (λ (b : List ℕ). rowCount b method ≤ 64) (sym (front-block c (omega (arith, r .most)))) (r .few c l method);
-    parents = record { at = λ c l. kept-word 42144 t u (h .same) (parentsWord + c) (omega (arith, r .most)) ∙ r .parents .at c l ∙ ap (λ (P : Program). class P c .parent) (sym (front-program s n)) };
+    parents = front-parents s n (r .most) (r .parents);
   }
 
 pub front-none : (t : List ℕ) → Front t t

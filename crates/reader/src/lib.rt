@@ -12,3 +12,4 @@ pub mod overriding;
 pub mod pool;
 pub mod signature;
 pub mod types;
+pub mod whole;
