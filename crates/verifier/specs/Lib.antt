@@ -4,7 +4,6 @@ pub mod Opcodes
 pub mod OpcodeTable
 pub mod Types
 pub mod TypeWords
-pub mod TypeCodes
 pub mod ResolvedWords
 pub mod States
 pub mod Ancestry
@@ -18,6 +17,9 @@ pub mod SlotLaws
 pub mod FrameRows
 pub mod InstructionWords
 pub mod Walk
+pub mod CodeLaws
+pub mod Decoding
+pub mod DecodeLaws
 pub mod Forms
 pub mod FormLaws
 pub mod Groups
@@ -27,6 +29,7 @@ pub mod FrameLaws
 pub mod Known
 pub mod KnownLaws
 pub mod Sites
+pub mod SiteLaws
 pub mod Handlers
 pub mod StepClaims
 pub mod Verify

@@ -1,5 +1,5 @@
 -- What a method's site says: the method of the program that the scratch stands for, and the tables' words of it.
-use Prim.Native.Nat.{ℕ, _+_, _-_, _*_, _^_, _≤_, _<_}
+use Prim.Native.Nat.{ℕ, _+_, _-_, _*_, _≤_, _<_}
 use mathlib.Core.Path.{_≡_}
 use mathlib.Core.List.{List}
 use lib.ListN.{length, take}
@@ -8,10 +8,10 @@ use Rattle.reader.specs.BuiltIns.{firstClass}
 use Rattle.reader.specs.Members.{Body}
 use Rattle.reader.specs.Attributes.{foundOf, handlersFrom}
 use Rattle.reader.specs.Program.{Program, Method, class, method, programOf, isConstructor}
+use Rattle.reader.specs.TypeCodes.{paramsIn, resultsIn}
 use Rattle.reader.specs.Linked.{filesIn}
 use Rattle.verifier.specs.Resolve.{resolve}
 use Rattle.verifier.specs.Ancestry.{Parents}
-use Rattle.verifier.specs.TypeCodes.{paramsIn, resultsIn}
 use Rattle.verifier.specs.ResolvedWords.{wordOf, resolvedIn, Flagged}
 use Rattle.verifier.specs.declared.site.Site.{Site}
 
@@ -39,8 +39,8 @@ pub record Sited (s t : List ℕ) (P : Program) (M : Method) (x : Site) : Type 0
   pub owner : M .owner ≡ firstClass + x .class
   pub named : (i : ℕ) → resolvedIn s t (x .class) i ≡ resolve P (class P (M .owner) .pool) i
   pub flags : (i : ℕ) → Flagged P (wordOf t (x .class) i)
-  pub params : M .params ≡ paramsIn t (x .class) (x .method)
-  pub results : M .results ≡ resultsIn t (x .class) (x .method)
+  pub params : M .params ≡ paramsIn t (64 * x .class + x .method)
+  pub results : M .results ≡ resultsIn t (64 * x .class + x .method)
   pub parents : Parents P t 25728 (firstClass + x .classes)
   pub constructor : isConstructor M ≡ x .constructor
   pub static : M .static ≡ x .fixed
@@ -48,6 +48,7 @@ pub record Sited (s t : List ℕ) (P : Program) (M : Method) (x : Site) : Type 0
 
 -- its parts lie in the bundle and keep to the limits
 pub record Bounded (s : List ℕ) (x : Site) : Type 0 where
+  pub classes : x .classes ≤ 16
   pub class : x .class < 16
   pub method : x .method < 64
   pub stack : x .stack ≤ 32
@@ -56,7 +57,7 @@ pub record Bounded (s : List ℕ) (x : Site) : Type 0 where
   pub to : x .end ≤ length s
   pub size : x .end - x .start ≤ 4096
   pub entries : x .entries ≤ 32
-  pub table : x .table ≤ 2 ^ 34
+  pub table : x .table + 8 * x .entries ≤ length s
   pub framesFrom : x .frames ≤ x .last
   pub framesTo : x .last ≤ length s
 

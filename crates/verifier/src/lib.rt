@@ -1,5 +1,7 @@
 // Phases C and D. The definitions are in specs/.
 pub mod calls;
+pub mod codes;
+pub mod decode;
 pub mod dispatch;
 pub mod forms;
 pub mod frames;
