@@ -7,14 +7,11 @@ use lib.Dec.{eqb}
 use borrow.Author.Tests.{eq-eqb, ne-eqb, eqb-true, eqb-false}
 use Rattle.reader.specs.Descriptors.{Ref, cls, arr, Desc, dint, dref}
 use Rattle.reader.specs.TypeCodes as code
-use Rattle.reader.specs.TypeCodes.{nested, refIn, descOf as codeDesc, refOf as codeRef}
+use Rattle.reader.specs.TypeCodes.{nested, refIn, refOf as refBy, descOf as codeDesc}
 use Rattle.verifier.specs.Types.{Ty, int, ini, tyOf}
 use Rattle.verifier.specs.TypeWords.{intBase, baseOf, nest, typeOf}
+use Rattle.verifier.specs.TypeCodes.{codeBase, codeRef}
 use Rattle.verifier.specs.InstructionWords.{refOf, descOf, elementOf}
-
--- ---- the codes by the verifier's bases
-abbrev pub codeBase : ℕ → ℕ
-codeBase b = cond (eqb b 31) intBase b
 
 nest-is : (b d : ℕ) → b < 32 → nest (codeBase b) d ≡ nested d (code.baseOf b)
 unfolding nest baseOf nested code.baseOf
@@ -30,19 +27,32 @@ module _ (k : ℕ) (h : k < 256) where
   unfolding codeDesc
   desc-is = sym (nest-is (k / 8) (k % 8) (omega arith))
 
-  pub ref-class : (k ≡ 248 → ⊥) → k % 8 ≡ 0 → codeRef k ≡ cls (k / 8)
-  unfolding codeRef refIn nest baseOf
-  ref-class n z = rw (desc-is, z, ne-eqb (k / 8) 31 (λ e. n (omega arith)), ne-eqb (k / 8) intBase (λ e. omega arith))
+module _ (k : ℕ) where
+  pub ref-class : k % 8 ≡ 0 → codeRef k ≡ cls (k / 8)
+  unfolding codeRef
+  ref-class z = rw (eq-eqb (k % 8) 0 z)
 
   pub ref-array : (k % 8 ≡ 0 → ⊥) → codeRef k ≡ arr (nest (codeBase (k / 8)) (k % 8 - 1))
-  unfolding codeRef refIn nest
-  ref-array n =
-      let z : k % 8 ≡ suc (k % 8 - 1) = omega arith in
-      ap refIn (desc-is ∙ ap (nest (codeBase (k / 8))) z)
+  unfolding codeRef
+  ref-array n = rw (ne-eqb (k % 8) 0 n)
 
-pub ref-int : (k : ℕ) → k ≡ 248 → codeRef k ≡ cls 0
-unfolding codeRef codeDesc refIn nested code.baseOf
-ref-int k e = rw e
+  pub desc-ref : k < 256 → (k ≡ 248 → ⊥) → codeDesc k ≡ dref (codeRef k)
+  unfolding nest baseOf
+  desc-ref l n = go (eqb (k % 8) 0) refl
+    where
+      go : (t : Bool) → eqb (k % 8) 0 ≡ t → codeDesc k ≡ dref (codeRef k)
+      go true e =
+          let z : k % 8 ≡ 0 = eqb-true (k % 8) 0 e in
+          desc-is k l ∙ rw (z, ref-class z, ne-eqb (k / 8) 31 (λ x. n (omega arith)), ne-eqb (k / 8) intBase (λ x. omega arith))
+      go false e =
+          let z : k % 8 ≡ 0 → ⊥ = eqb-false (k % 8) 0 e in
+          let y : k % 8 ≡ suc (k % 8 - 1) = omega arith in
+          desc-is k l ∙ ap (nest (codeBase (k / 8))) y ∙ rw (ref-array z)
+
+  -- the reader's reading of it
+  pub ref-is : k < 256 → (k ≡ 248 → ⊥) → codeRef k ≡ refBy k
+  unfolding refBy refIn
+  ref-is l n = sym (ap refIn (desc-ref l n))
 
 -- a word by its parts
 module _ (w k d b : ℕ) (e : w ≡ k + 8 * d + 64 * b) (hk : k < 8) (hd : d < 8) where
@@ -80,45 +90,23 @@ module _ (w b : ℕ) where
     array-type = rw (kind-of w 4 d b e (omega arith) h) (ap (λ (x : Desc). ini (arr x)) array-element)
 
 module _ (k w : ℕ) where
-  pub code-object : k ≡ 248 → w ≡ 3 → (refOf w ≡ codeRef k) × (typeOf w ≡ ini (codeRef k))
-  unfolding typeOf
-  code-object z e = rw (ref-int k z, e) (refl, refl)
+  pub code-class : k % 8 ≡ 0 → w ≡ 3 + 64 * (k / 8) → (refOf w ≡ codeRef k) × (typeOf w ≡ ini (codeRef k))
+  code-class z e = rw (ref-class k z) (class-ref w (k / 8) e, class-type w (k / 8) e)
 
-  pub code-class : k < 256 → (k ≡ 248 → ⊥) → k % 8 ≡ 0 → w ≡ 3 + 64 * (k / 8) → (refOf w ≡ codeRef k) × (typeOf w ≡ ini (codeRef k))
-  code-class l n z e = rw (ref-class k l n z) (class-ref w (k / 8) e, class-type w (k / 8) e)
+  pub code-array : (b : ℕ) → (k % 8 ≡ 0 → ⊥) → b ≡ codeBase (k / 8) → w ≡ 4 + 8 * (k % 8 - 1) + 64 * b → (refOf w ≡ codeRef k) × (typeOf w ≡ ini (codeRef k))
+  code-array b n q e =
+      rw (ref-array k n, ← q) (array-ref w b (k % 8 - 1) (omega arith) e, array-type w b (k % 8 - 1) (omega arith) e)
 
-  pub code-array : k < 256 → (b : ℕ) → (k % 8 ≡ 0 → ⊥) → b ≡ codeBase (k / 8) → w ≡ 4 + 8 * (k % 8 - 1) + 64 * b → (refOf w ≡ codeRef k) × (typeOf w ≡ ini (codeRef k))
-  code-array l b n q e =
-      rw (ref-array k l n, ← q) (array-ref w b (k % 8 - 1) (omega arith) e, array-type w b (k % 8 - 1) (omega arith) e)
-
-  pub code-of-object : k ≡ 248 → w ≡ 4 → elementOf w ≡ dref (codeRef k)
+  pub code-of-class : k < 256 → k % 8 ≡ 0 → w ≡ 4 + 64 * (k / 8) → elementOf w ≡ dref (codeRef k)
   unfolding nest baseOf
-  code-of-object z e = rw (ref-int k z, e)
+  code-of-class l z e =
+      rw (ref-class k z) (array-element w (k / 8) 0 (omega arith) (omega arith) ∙ rw (ne-eqb (k / 8) intBase (λ x. omega arith)))
 
-  pub code-of-class : k < 256 → (k ≡ 248 → ⊥) → k % 8 ≡ 0 → w ≡ 4 + 64 * (k / 8) → elementOf w ≡ dref (codeRef k)
-  unfolding nest baseOf
-  code-of-class l n z e =
-      rw (ref-class k l n z) (array-element w (k / 8) 0 (omega arith) (omega arith) ∙ rw (ne-eqb (k / 8) intBase (λ x. omega arith)))
-
-  pub code-of-array : k < 256 → (b : ℕ) → (k % 8 ≡ 0 → ⊥) → b ≡ codeBase (k / 8) → w ≡ 4 + 8 * (k % 8) + 64 * b → elementOf w ≡ dref (codeRef k)
+  pub code-of-array : (b : ℕ) → (k % 8 ≡ 0 → ⊥) → b ≡ codeBase (k / 8) → w ≡ 4 + 8 * (k % 8) + 64 * b → elementOf w ≡ dref (codeRef k)
   unfolding nest
-  code-of-array l b n q e =
+  code-of-array b n q e =
       let z : k % 8 ≡ suc (k % 8 - 1) = omega arith in
-      array-element w b (k % 8) (omega arith) e ∙ ap (nest b) z ∙ rw (ref-array k l n, ← q)
-
-  -- int's code is 248
-  described-as : k < 256 → (k ≡ 248 → ⊥) → codeDesc k ≡ dref (codeRef k)
-  unfolding nest baseOf
-  described-as l n = go (eqb (k % 8) 0) refl
-    where
-      go : (t : Bool) → eqb (k % 8) 0 ≡ t → codeDesc k ≡ dref (codeRef k)
-      go true e =
-          let z : k % 8 ≡ 0 = eqb-true (k % 8) 0 e in
-          desc-is k l ∙ rw (z, ref-class k l n z, ne-eqb (k / 8) 31 (λ x. n (omega arith)), ne-eqb (k / 8) intBase (λ x. omega arith))
-      go false e =
-          let z : k % 8 ≡ 0 → ⊥ = eqb-false (k % 8) 0 e in
-          let y : k % 8 ≡ suc (k % 8 - 1) = omega arith in
-          desc-is k l ∙ ap (nest (codeBase (k / 8))) y ∙ rw (ref-array k l z)
+      array-element w b (k % 8) (omega arith) e ∙ ap (nest b) z ∙ rw (ref-array k n, ← q)
 
   pub code-int : k ≡ 248 → w ≡ 1 → (descOf w ≡ codeDesc k) × (typeOf w ≡ tyOf (codeDesc k))
   unfolding codeDesc nested code.baseOf typeOf
@@ -133,4 +121,4 @@ module _ (k w : ℕ) where
 
   pub code-other : k < 256 → (k ≡ 248 → ⊥) → (refOf w ≡ codeRef k) × (typeOf w ≡ ini (codeRef k)) → (descOf w ≡ codeDesc k) × (typeOf w ≡ tyOf (codeDesc k))
   code-other l n e =
-      rw (described-as l n) (rw (ne-eqb (w % 8) 1 (not-int (codeRef k) (e .1))) (ap dref (e .0)), e .1)
+      rw (desc-ref k l n) (rw (ne-eqb (w % 8) 1 (not-int (codeRef k) (e .1))) (ap dref (e .0)), e .1)

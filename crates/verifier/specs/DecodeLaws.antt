@@ -10,13 +10,13 @@ use borrow.Author.Tests.{eq-eqb, ne-eqb, eqb-true, eqb-false, lt-ltb, le-ltb}
 use Rattle.kit.specs.Bools.{both-left, both-right, not-so}
 use Rattle.kit.specs.Scan.{firstNot, first-before}
 use Rattle.reader.specs.Descriptors.{Ref, cls, arr, Desc, dint, dref, dimensions, depthOf}
-use Rattle.reader.specs.TypeCodes.{refOf as codeRef}
 use Rattle.reader.specs.Program.{Program, Method, class}
 use Rattle.verifier.specs.Instruction.{Instr, FieldRef, MethodRef, iconst, new, newarray, invokevirtual, invokespecial, invokestatic, illegal, unresolved}
 use Rattle.verifier.specs.Resolve.{Resolved, nothing, number, type, field, methodOf, resolve, asNumber, asType, asField, asMethod, newOf, arrayOf, isStaticCall, isVirtualCall, isInitCall}
 use Rattle.verifier.specs.Opcodes.{Row, row, rows, rowIn, rowOf, lengthOf, within, codeOf, instruction}
 use Rattle.verifier.specs.TypeWords.{intBase, baseOf, nest}
-use Rattle.verifier.specs.CodeLaws.{codeBase, ref-int, ref-class, ref-array}
+use Rattle.verifier.specs.CodeLaws.{ref-class, ref-array}
+use Rattle.verifier.specs.TypeCodes.{codeBase, codeRef}
 use Rattle.verifier.specs.InstructionWords.{instrOf}
 use Rattle.verifier.specs.ResolvedWords.{fieldIn, methodIn, staticBit, initBit, resolvedAs, resolvedIn, wordOf, Flagged}
 use Rattle.verifier.specs.Decoding.{Refers, CallsBy, madeBy, made}
@@ -186,14 +186,11 @@ module _ (w : ℕ) (r : code.Instr) where
 
 -- a class, or an array of few enough dimensions
 module _ (k : ℕ) where
-  pub new-object : k ≡ 248 → new 0 ≡ newOf (codeRef k)
-  new-object e = rw (ref-int k e)
+  pub new-class : k % 8 ≡ 0 → new (k / 8) ≡ newOf (codeRef k)
+  new-class e = rw (ref-class k e)
 
-  pub new-class : k < 256 → (k ≡ 248 → ⊥) → k % 8 ≡ 0 → new (k / 8) ≡ newOf (codeRef k)
-  new-class h n e = rw (ref-class k h n e)
-
-  pub new-none : k < 256 → (k % 8 ≡ 0 → ⊥) → unresolved ≡ newOf (codeRef k)
-  new-none h e = rw (ref-array k h e)
+  pub new-none : (k % 8 ≡ 0 → ⊥) → unresolved ≡ newOf (codeRef k)
+  new-none e = rw (ref-array k e)
 
   depth-nest : (b d : ℕ) → depthOf (nest b d) ≡ d
   unfolding depthOf dimensions nest baseOf
@@ -204,22 +201,21 @@ module _ (k : ℕ) where
       go false = refl
   depth-nest b (suc d) = ap suc (depth-nest b d)
 
-  depth-code : k < 256 → dimensions (codeRef k) ≡ k % 8
+  depth-code : dimensions (codeRef k) ≡ k % 8
   unfolding dimensions depthOf
-  depth-code h = go (eqb k 248) (eqb (k % 8) 0) refl refl
+  depth-code = go (eqb (k % 8) 0) refl
     where
-      go : (s t : Bool) → eqb k 248 ≡ s → eqb (k % 8) 0 ≡ t → dimensions (codeRef k) ≡ k % 8
-      go true t p e = let z : k ≡ 248 = eqb-true k 248 p in rw (ref-int k z, z)
-      go false true p e =
+      go : (t : Bool) → eqb (k % 8) 0 ≡ t → dimensions (codeRef k) ≡ k % 8
+      go true e =
           let z : k % 8 ≡ 0 = eqb-true (k % 8) 0 e in
-          rw (ref-class k h (eqb-false k 248 p) z, z)
-      go false false p e =
+          rw (ref-class k z, z)
+      go false e =
           let n : k % 8 ≡ 0 → ⊥ = eqb-false (k % 8) 0 e in
           let z : suc (k % 8 - 1) ≡ k % 8 = omega arith in
-          ap dimensions (ref-array k h n) ∙ ap suc (depth-nest (codeBase (k / 8)) (k % 8 - 1)) ∙ z
+          ap dimensions (ref-array k n) ∙ ap suc (depth-nest (codeBase (k / 8)) (k % 8 - 1)) ∙ z
 
-  pub array-some : (d : Desc) → k < 256 → k % 8 < 7 → d ≡ dref (codeRef k) → newarray d ≡ arrayOf (codeRef k)
-  array-some d h l e = rw (depth-code h, lt-ltb (k % 8) 7 l, e)
+  pub array-some : (d : Desc) → k % 8 < 7 → d ≡ dref (codeRef k) → newarray d ≡ arrayOf (codeRef k)
+  array-some d l e = rw (depth-code, lt-ltb (k % 8) 7 l, e)
 
-  pub array-none : k < 256 → 7 ≤ k % 8 → unresolved ≡ arrayOf (codeRef k)
-  array-none h l = rw (depth-code h, le-ltb (k % 8) 7 l)
+  pub array-none : 7 ≤ k % 8 → unresolved ≡ arrayOf (codeRef k)
+  array-none l = rw (depth-code, le-ltb (k % 8) 7 l)

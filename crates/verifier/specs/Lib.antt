@@ -4,6 +4,7 @@ pub mod Opcodes
 pub mod OpcodeTable
 pub mod Types
 pub mod TypeWords
+pub mod TypeCodes
 pub mod ResolvedWords
 pub mod States
 pub mod Ancestry

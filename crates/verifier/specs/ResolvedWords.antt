@@ -7,8 +7,9 @@ use lib.Dec.{eqb, ltb}
 use Rattle.kit.specs.Words.{word}
 use Rattle.reader.specs.Reading.{u4At}
 use Rattle.reader.specs.Program.{Program, isConstructor}
-use Rattle.reader.specs.TypeCodes.{descOf as codeDesc, refOf as codeRef}
+use Rattle.reader.specs.TypeCodes.{descOf as codeDesc}
 use Rattle.verifier.specs.Instruction.{FieldRef, MethodRef}
+use Rattle.verifier.specs.TypeCodes.{codeRef}
 use Rattle.verifier.specs.Resolve.{Resolved, nothing, number, type, field, methodOf, found}
 
 -- a field's: type code (256), named (32), owner (32), slot (1024)

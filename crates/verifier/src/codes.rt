@@ -2,11 +2,11 @@
 ghost use mathlib.Core.Path.{_≡_};
 ghost use Prim.Native.Nat.{_/_, _<_};
 ghost use Rattle.reader.specs.Descriptors.{dref};
-ghost use Rattle.reader.specs.TypeCodes.{descOf as codeDesc, refOf as codeRef};
+ghost use Rattle.reader.specs.TypeCodes.{descOf as codeDesc};
 ghost use Rattle.verifier.specs.Types.{ini, tyOf};
 ghost use Rattle.verifier.specs.TypeWords.{typeOf};
 ghost use Rattle.verifier.specs.InstructionWords.{refOf, descOf, elementOf};
-ghost use Rattle.verifier.specs.CodeLaws.{codeBase};
+ghost use Rattle.verifier.specs.TypeCodes.{codeBase, codeRef};
 use crate::types::Ty;
 
 fn base(k: u8) -> u32
@@ -18,13 +18,10 @@ fn base(k: u8) -> u32
     (k / 8) as u32
 }
 
-// A class or an array; int's code, which is neither, counts as Object.
+// A class or an array.
 pub fn reference(k: u8) -> Ty
     ensures { λ r. ⌜ (refOf (r .word) ≡ codeRef k) × (typeOf (r .word) ≡ ini (codeRef k)) ⌝ }
 {
-    if k == 248 {
-        return Ty { word: Ty::CLASS };
-    }
     if k % 8 == 0 {
         return Ty {
             word: Ty::CLASS + 64 * ((k / 8) as u32),
@@ -39,9 +36,6 @@ pub fn reference(k: u8) -> Ty
 pub fn array_of(k: u8) -> Ty
     ensures { λ r. ⌜ elementOf (r .word) ≡ dref (codeRef k) ⌝ }
 {
-    if k == 248 {
-        return Ty { word: Ty::ARRAY };
-    }
     if k % 8 == 0 {
         return Ty {
             word: Ty::ARRAY + 64 * ((k / 8) as u32),

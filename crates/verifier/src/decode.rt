@@ -338,9 +338,6 @@ fn new_object(w: u32) -> Instr
         return Instr::Unresolved;
     }
     let k = (w / 8 % 256) as u8;
-    if k == 248 {
-        return Instr::New(0);
-    }
     if k % 8 == 0 {
         return Instr::New((k / 8) as u16);
     }

@@ -22,11 +22,11 @@ array-of-requires c κs = search needs
 
 -- src/decode.rt:342:9
 returns-2 : tie.Need-returns-2
-returns-2 c = type-yes _ _ (λ r. arrayOf r) (c .before .before .if1 .left) (array-some _ _ (search needs) (c .before .if2 .taken) (c .array-of .ensures))
+returns-2 c = type-yes _ _ (λ r. arrayOf r) (c .before .before .if1 .left) (array-some _ _ (c .before .if2 .taken) (c .array-of .ensures))
 
 -- src/decode.rt:334:1
 returns-3 : tie.Need-returns-3
-returns-3 c = type-yes _ _ (λ r. arrayOf r) (c .before .if1 .left) (array-none _ (search needs) (c .if2 .left))
+returns-3 c = type-yes _ _ (λ r. arrayOf r) (c .before .if1 .left) (array-none _ (c .if2 .left))
 
 pub new-array-spec : {M : Type 1} → statement M
 new-array-spec = tie.close (tie.spec returns cast-k array-of-requires returns-2 returns-3)
