@@ -268,7 +268,7 @@ unfolding replaceAll
 length-replaced k u [] = refl
 length-replaced k u (t ∷ l) = ap suc (length-replaced k u l)
 
-key-self : (w : ℕ) → (w % 8 ≡ 5 → ⊥) → self ≡ keyOf (typeOf w)
+pub key-self : (w : ℕ) → (w % 8 ≡ 5 → ⊥) → self ≡ keyOf (typeOf w)
 key-self w h = of-type keyOf w self (search kinds depth 12)
 
 module _ (L : Program) (most : ℕ) (F : Facts) (c : ℕ) (t : List ℕ) (h : Held) where

@@ -33,6 +33,7 @@ pub mod Sites
 pub mod SiteLaws
 pub mod Handlers
 pub mod StepClaims
+pub mod Loads
 pub mod Verify
 pub mod Computing
 pub mod Laws

@@ -1,6 +1,6 @@
 -- Laws of states in words: what reads and stores of words are to the state, in the direction in which the code's returns ask for them.
 -- Assumes nothing.
-use Prim.Native.Nat.{ℕ, zero, suc, _+_, _-_, _/_, _^_, _<_, _≤_}
+use Prim.Native.Nat.{ℕ, zero, suc, _+_, _-_, _*_, _/_, _^_, _<_, _≤_}
 use mathlib.Core.Path.{_≡_, refl, sym, ap, _∙_}
 use mathlib.Core.Bool.{Bool, true, false, cond, not, Bool·beq}
 use mathlib.Core.List.{List, [], _∷_, _++_}
@@ -9,12 +9,13 @@ use native.Mathlib.Omega.{arith}
 use native.Mathlib.Nat.{not-suc-le-zero}
 use native.Mathlib.Numerals.{add-one, sub-one}
 use lib.Dec.{eqb, leb}
-use lib.ListN.{length, getD, drop, set, List·getD-eq-default}
-use lib.Seq.{set-out}
+use lib.ListN.{length, getD, take, drop, set, List·getD-eq-default}
+use lib.Seq.{set-out, take-take}
 use borrow.Author.Tests.{le-leb, lt-leb, ne-eqb, eq-eqb, not-true, not-false}
 use Rattle.kit.specs.Pick.{side}
 use Rattle.kit.specs.Claims.{claim, Ruling, is, verdict, then, is-zero, fails, pos-eqb, verdict-yes, verdict-none, then-pass, verdict-append}
 use Rattle.kit.specs.Words.{word, putWord, word-same, word-other}
+use Rattle.reader.specs.BlockWords.{take-put}
 use Rattle.reader.specs.Program.{Program}
 use Rattle.verifier.specs.Types.{Key, Ty, top, isUninit, fits}
 use Rattle.verifier.specs.States.{state, topOf, operand, slotsFit, stateFits, replaceAll, noCopy}
@@ -173,17 +174,21 @@ module _ (t : List ℕ) (i w : ℕ) where
   locals-apart x n h = locals-same t (putWord t i w) x n (λ j a b. slot-other t i j w (λ e. omega arith))
 
   pub outside-put : (x : ℕ) → x ≤ i → i < x + 72 → Outside x t (putWord t i w)
-  outside-put x h l = record { kept = λ j s. word-other t i w j (λ e. apart j s e) }
+  outside-put x h l = record { kept = λ j s. word-other t i w j (λ e. apart j s e); front = take-put x t i w h }
     where
       apart : (j : ℕ) → (j < x) ⊎ (x + 72 ≤ j) → j ≡ i → ⊥
       apart j (inl a) e = omega arith
       apart j (inr a) e = omega arith
 
+-- what is the same up to n is the same up to m below
+pub take-less : (m n : ℕ) (t u : List ℕ) → m ≤ n → take n u ≡ take n t → take m u ≡ take m t
+take-less m n t u h e = sym (take-take m n u h) ∙ ap (take m) e ∙ take-take m n t h
+
 pub outside-none : (x : ℕ) (t : List ℕ) → Outside x t t
-outside-none x t = record { kept = λ j s. refl }
+outside-none x t = record { kept = λ j s. refl; front = refl }
 
 pub outside-two : (x : ℕ) (t u v : List ℕ) → Outside x t u → Outside x u v → Outside x t v
-outside-two x t u v p q = record { kept = λ j s. q .kept j s ∙ p .kept j s }
+outside-two x t u v p q = record { kept = λ j s. q .kept j s ∙ p .kept j s; front = q .front ∙ p .front }
 
 stack-push : (t : List ℕ) (x d w : ℕ) → x + d < length t / 4 → w < 2 ^ 32 → stackAt (putWord t (x + d) w) x (d + 1) ≡ typeOf w ∷ stackAt t x d
 unfolding stackAt
@@ -267,12 +272,12 @@ module _ (k : Key) (v u : Ty) (q : Bool) where
 
 module _ (k : Key) (v : Ty) (t : List ℕ) (x : ℕ) where
   pub swapped-none : Swapped k v t t x 0
-  swapped-none = record { done = λ j a b. absurd (omega arith); rest = λ j s. refl }
+  swapped-none = record { done = λ j a b. absurd (omega arith); rest = λ j s. refl; front = refl }
 
   -- one word more
   pub swapped-more : (u : List ℕ) (i w : ℕ) → Swapped k v t u x i → x + i < length u / 4 → w < 2 ^ 32 → typeOf w ≡ swap1 k v (typeOf (word u (x + i)))
       → Swapped k v t (putWord u (x + i) w) x (i + 1)
-  swapped-more u i w s l f e = record { done = λ j a b. done j a b (side j (x + i)); rest = λ j c. rest j c }
+  swapped-more u i w s l f e = record { done = λ j a b. done j a b (side j (x + i)); rest = λ j c. rest j c; front = take-put x u (x + i) w (omega arith) ∙ s .front }
     where
       done : (j : ℕ) → x ≤ j → j < x + (i + 1) → (j < x + i) ⊎ (x + i ≤ j) → slot (putWord u (x + i) w) j ≡ swap1 k v (slot t j)
       done j a b (inl c) = slot-other u (x + i) j w (λ e. omega arith) ∙ s .done j a c
@@ -303,7 +308,7 @@ module _ (k : Key) (v : Ty) (t u : List ℕ) where
   rest-stack x d y m s h = stack-same t u x d (λ i a b. slot-word t u i (s .rest i (inr (omega arith))))
 
   swap-outside : (x y m : ℕ) → Swapped k v t u y m → x ≤ y → y + m ≤ x + 72 → Outside x t u
-  swap-outside x y m s h l = record { kept = λ j c. kept j c }
+  swap-outside x y m s h l = record { kept = λ j c. kept j c; front = take-less (4 * x) (4 * y) t u (omega arith) (s .front) }
     where
       kept : (j : ℕ) → (j < x) ⊎ (x + 72 ≤ j) → word u j ≡ word t j
       kept j (inl a) = s .rest j (inl (omega arith))

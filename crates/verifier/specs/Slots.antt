@@ -1,10 +1,10 @@
 -- A state in words: 32 of locals, then the operands, a word each; flag and depth stand beside it.
-use Prim.Native.Nat.{ℕ, zero, suc, _+_, _/_, _<_, _≤_}
+use Prim.Native.Nat.{ℕ, zero, suc, _+_, _*_, _/_, _<_, _≤_}
 use mathlib.Core.Path.{_≡_}
 use mathlib.Core.Bool.{Bool, cond}
 use mathlib.Core.List.{List, [], _∷_}
 use mathlib.Core.Logic.{_⊎_}
-use lib.ListN.{length, drop, set}
+use lib.ListN.{length, take, drop, set}
 use Rattle.kit.specs.Words.{word}
 use Rattle.verifier.specs.Types.{Key, Ty, top, isUninit}
 use Rattle.verifier.specs.States.{State, state, replaceAll}
@@ -45,9 +45,10 @@ pub record Roomy (t : List ℕ) (h : Held) : Type 0 where
   pub locals : h .locals ≤ 32
   pub depth : h .depth ≤ 40
 
--- nothing changes but the words of a state at x
+-- nothing changes but the words of a state at x; of what stands before them, no byte
 pub record Outside (x : ℕ) (t u : List ℕ) : Type 0 where
   pub kept : (j : ℕ) → (j < x) ⊎ (x + 72 ≤ j) → word u j ≡ word t j
+  pub front : take (4 * x) u ≡ take (4 * x) t
 
 -- the same place, at another depth
 pub record Moved (h r : Held) (d : ℕ) : Type 0 where
@@ -88,3 +89,4 @@ veil b k (t ∷ ts) = veil1 b k t ∷ veil b k ts
 pub record Swapped (k : Key) (v : Ty) (t u : List ℕ) (x m : ℕ) : Type 0 where
   pub done : (j : ℕ) → x ≤ j → j < x + m → slot u j ≡ swap1 k v (slot t j)
   pub rest : (j : ℕ) → (j < x) ⊎ (x + m ≤ j) → word u j ≡ word t j
+  pub front : take (4 * x) u ≡ take (4 * x) t

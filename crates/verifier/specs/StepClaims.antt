@@ -1,9 +1,8 @@
 -- All that is asked of one instruction, as the code follows it: operands, handlers, branches; and that it is the meaning's. Assumes nothing.
-use Prim.Native.Nat.{ℕ, zero, suc, _+_, _*_, _%_, _≤_}
+use Prim.Native.Nat.{ℕ, zero, suc, _+_, _*_, _%_, _<_, _≤_}
 use mathlib.Core.Path.{_≡_, refl, sym, ap, _∙_}
 use mathlib.Core.Bool.{Bool, true, false}
 use mathlib.Core.List.{List, [], _∷_, _++_, append-nil}
-use mathlib.Core.Logic.{inl}
 use native.Mathlib.Omega.{arith}
 use lib.Dec.{leb}
 use lib.ListN.{length}
@@ -23,7 +22,7 @@ use Rattle.verifier.specs.Rule.{Rule, rule, keyOf}
 use Rattle.verifier.specs.Walk.{frameAt, intoFrame, operandsFit, operandClaims, handlersClaims, branchClaims, instructionClaims}
 use Rattle.verifier.specs.InstructionWords.{plainOf, branchOf, localOf, stackOf, leaveOf, callOf, instrOf}
 use Rattle.verifier.specs.Ancestry.{lineage, childrenAt, Parents}
-use Rattle.verifier.specs.Slots.{stackAt, localsAt, held, veil, Outside}
+use Rattle.verifier.specs.Slots.{stackAt, localsAt, held, veil}
 use Rattle.verifier.specs.SlotLaws.{length-stack, locals-same, stack-same, slot-word}
 use Rattle.verifier.specs.Forms.{Kept}
 use Rattle.verifier.specs.FrameRows.{framesAt, framesOf, rowHeld, offsetAt, Laid}
@@ -254,12 +253,12 @@ module _ (P : Program) (M : Method) (t : List ℕ) (x n : ℕ) (p : Parents P t 
           ∙ ap (λ (ts : List ℕ). verdict (branchClaims P fs (R .after) ts)) (targets-of i)
 
 -- ---- a write to the state leaves parents and frames alone
-module _ (x : ℕ) (t u : List ℕ) (h : Outside x t u) where
+module _ (x : ℕ) (t u : List ℕ) (h : (j : ℕ) → j < x → word u j ≡ word t j) where
   children-outside : (a n : ℕ) → a + n ≤ x → childrenAt u a n ≡ childrenAt t a n
   unfolding childrenAt
   children-outside a zero l = refl
   children-outside a (suc n) l =
-      let e : word u a ≡ word t a = h .kept a (inl (omega arith)) in
+      let e : word u a ≡ word t a = h a (omega arith) in
       let f : childrenAt u (suc a) n ≡ childrenAt t (suc a) n = children-outside (suc a) n (omega arith) in
       cc
 
@@ -269,18 +268,18 @@ module _ (x : ℕ) (t u : List ℕ) (h : Outside x t u) where
 
   row-outside : (n a : ℕ) → n ≤ 32 → a + 68 ≤ x → held u (rowHeld u n a) ≡ held t (rowHeld t n a)
   row-outside n a m l =
-      let d : word u (a + 65) ≡ word t (a + 65) = h .kept (a + 65) (inl (omega arith)) in
-      let g : word u (a + 66) ≡ word t (a + 66) = h .kept (a + 66) (inl (omega arith)) in
-      let b : localsAt u a n ≡ localsAt t a n = locals-same t u a n (λ i p q. slot-word t u i (h .kept i (inl (omega arith)))) in
+      let d : word u (a + 65) ≡ word t (a + 65) = h (a + 65) (omega arith) in
+      let g : word u (a + 66) ≡ word t (a + 66) = h (a + 66) (omega arith) in
+      let b : localsAt u a n ≡ localsAt t a n = locals-same t u a n (λ i p q. slot-word t u i (h i (omega arith))) in
       let c : stackAt u (a + 32) (word t (a + 65) % 33) ≡ stackAt t (a + 32) (word t (a + 65) % 33) =
-      stack-same t u (a + 32) (word t (a + 65) % 33) (λ i p q. slot-word t u i (h .kept i (inl (omega arith)))) in
+      stack-same t u (a + 32) (word t (a + 65) % 33) (λ i p q. slot-word t u i (h i (omega arith))) in
       rw (d, g, b, c)
 
   frames-outside′ : (n a k : ℕ) → n ≤ 32 → a + 68 * k ≤ x → framesAt u n a k ≡ framesAt t n a k
   unfolding framesAt
   frames-outside′ n a zero m l = refl
   frames-outside′ n a (suc k) m l =
-      let e : word u (a + 64) ≡ word t (a + 64) = h .kept (a + 64) (inl (omega arith)) in
+      let e : word u (a + 64) ≡ word t (a + 64) = h (a + 64) (omega arith) in
       let f : held u (rowHeld u n a) ≡ held t (rowHeld t n a) = row-outside n a m (omega arith) in
       let g : framesAt u n (a + 68) k ≡ framesAt t n (a + 68) k = frames-outside′ n (a + 68) k m (omega arith) in
       rw (e, f, g)
@@ -310,12 +309,12 @@ pub going-on : (L : Program) (most : ℕ) (F : Facts) (o : ℕ) (i : code.Instr)
 going-on L most F o i S a p z l h r u k e =
     record { at = k .at; locals = k .locals; depth = omega (arith, room-after L most F o i S a p z (held u r) e, length-stack u (r .at + 32) (r .depth)) }
 
-pub laid-outside : (x : ℕ) (t u : List ℕ) (f : Rows) → Outside x t u → f .at + 68 * f .count ≤ x → length u ≡ length t → Laid t f → Laid u f
+pub laid-outside : (x : ℕ) (t u : List ℕ) (f : Rows) → ((j : ℕ) → j < x → word u j ≡ word t j) → f .at + 68 * f .count ≤ x → length u ≡ length t → Laid t f → Laid u f
 laid-outside x t u f h l e p = record {
   inside = let i = p .inside in omega arith;
   locals = p .locals;
   rising = λ i j a b.
-      let y : offsetAt u f i ≡ offsetAt t f i = h .kept (f .at + 68 * i + 64) (inl (omega arith)) in
-      let z : offsetAt u f j ≡ offsetAt t f j = h .kept (f .at + 68 * j + 64) (inl (omega arith)) in
+      let y : offsetAt u f i ≡ offsetAt t f i = h (f .at + 68 * i + 64) (omega arith) in
+      let z : offsetAt u f j ≡ offsetAt t f j = h (f .at + 68 * j + 64) (omega arith) in
       rw (y, z) (p .rising i j a b);
 }

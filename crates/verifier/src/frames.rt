@@ -10,8 +10,9 @@ ghost use Rattle.verifier.specs.States.{state};
 ghost use Rattle.verifier.specs.Walk.{frameAt, intoFrame};
 ghost use Rattle.verifier.specs.TypeWords.{typeOf};
 ghost use Rattle.verifier.specs.Ancestry.{lineage};
-ghost use Rattle.verifier.specs.Slots.{held, localsOf, veil, Placed};
+ghost use Rattle.verifier.specs.Slots.{held, localsOf, veil, Placed, Outside};
 ghost use Rattle.verifier.specs.FrameRows.{rowHeld, framesOf, Laid, Among, standing, Sound};
+ghost use Rattle.verifier.specs.Loads.{Copied, Loaded};
 use crate::slots::Held;
 use crate::slots::{self};
 use crate::types::Kin;
@@ -72,6 +73,34 @@ pub fn find(t: &[u8], f: Rows, o: usize) -> Standing
     Standing {
         there: false,
         held: h,
+    }
+}
+
+// n words from a on are copied to those from b on.
+fn copy(t: &mut [u8], a: usize, b: usize, n: usize)
+    requires { ⌜ (a + n ≤ b) × (b + n ≤ length (now t) / 4) ⌝ }
+    ensures { λ _. ⌜ Copied a b n (now (t .entry)) (now (t .exit)) ⌝ }
+{
+    let mut i = 0;
+    while i < n {
+        let w = kit::word(t, a + i);
+        kit::put_word(t, b + i, w);
+        i += 1;
+    }
+}
+
+// The frame's state comes to stand at x.
+pub fn load(t: &mut [u8], g: Held, x: usize) -> Held
+    requires { ⌜ Sound (now t) g × (g .at + 68 ≤ x) × (x + 72 ≤ length (now t) / 4) ⌝ }
+    ensures { λ r. ⌜ (held (now (t .exit)) r ≡ held (now (t .entry)) g) × Loaded x g r × Outside x (now (t .entry)) (now (t .exit)) ⌝ }
+{
+    copy(t, g.at, x, g.locals);
+    copy(t, g.at + 32, x + 32, g.depth);
+    Held {
+        at: x,
+        locals: g.locals,
+        depth: g.depth,
+        flag: g.flag,
     }
 }
 

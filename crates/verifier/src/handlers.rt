@@ -1,7 +1,6 @@
 // What a handler gets must fit its frame, for each entry of the exception table that covers an instruction.
 ghost use mathlib.Core.Path.{_≡_};
-ghost use Prim.Native.Nat.{_+_, _*_, _<_, _≤_};
-ghost use lib.ListN.{length};
+ghost use Prim.Native.Nat.{_+_, _^_, _≤_};
 ghost use Rattle.kit.specs.Claims.{is, verdict};
 ghost use Rattle.reader.specs.Attributes.{handlersFrom};
 ghost use Rattle.reader.specs.BuiltIns.{firstClass};
@@ -59,7 +58,7 @@ fn catch_type(t: &[u8], x: Site, i: usize) -> Ty
 
 // The entry at q covers the offset o.
 fn covers(s: &[u8], q: usize, o: usize) -> bool
-    requires { ⌜ q + 8 ≤ length (now s) ⌝ }
+    requires { ⌜ q ≤ 2 ^ 63 + 256 ⌝ }
     ensures { λ r. ⌜ r ≡ covers o (entryAt (now (s .entry)) q) ⌝ }
 {
     if u2_at(s, q) <= o {
@@ -81,7 +80,7 @@ fn one_handler(
     q: usize,
     o: usize,
 ) -> u32
-    requires { ⌜ (x .classes ≤ 16) × Laid (now t) f × Placed (now t) h × (q + 8 ≤ length (now s)) ⌝ }
+    requires { ⌜ (x .classes ≤ 16) × Laid (now t) f × Placed (now t) h × (q ≤ 2 ^ 63 + 256) ⌝ }
     ensures { λ r. ⌜ is r ≡ verdict (handlerBy (lineage (now (t .entry)) (kin .at) (kin .count)) (catchIn (now (t .entry)) (x .class) (firstClass + x .classes)) (framesOf (now (t .entry)) f) o (h .flag) (veil hide (keyOf (typeOf (key .word))) (localsOf (now (t .entry)) h)) (entryAt (now (s .entry)) q)) ⌝ }
 {
     if covers(s, q, o) {
@@ -107,7 +106,7 @@ pub fn all_handlers(
     key: Ty,
     o: usize,
 ) -> u32
-    requires { ⌜ (x .classes ≤ 16) × Laid (now t) f × Placed (now t) h × (x .table + 8 * x .entries ≤ length (now s)) ⌝ }
+    requires { ⌜ (x .classes ≤ 16) × Laid (now t) f × Placed (now t) h × (x .table ≤ 2 ^ 63) × (x .entries ≤ 32) ⌝ }
     ensures { λ r. ⌜ is r ≡ verdict (handlersBy (lineage (now (t .entry)) (kin .at) (kin .count)) (catchIn (now (t .entry)) (x .class) (firstClass + x .classes)) (framesOf (now (t .entry)) f) o (h .flag) (veil hide (keyOf (typeOf (key .word))) (localsOf (now (t .entry)) h)) (handlersFrom (now (s .entry)) (x .entries) (x .table))) ⌝ }
 {
     let mut q = x.table;

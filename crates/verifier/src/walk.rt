@@ -1,26 +1,31 @@
 // The walk over a method's code: one instruction after another, by offset.
 ghost use mathlib.Core.Path.{_≡_};
-ghost use Prim.Native.Nat.{_+_, _*_, _<_, _≤_, _/_};
+ghost use Prim.Native.Nat.{_+_, _*_, _^_, _≤_, _/_};
 ghost use lib.ListN.{length};
 ghost use Rattle.kit.specs.Claims.{is, verdict};
 ghost use Rattle.reader.specs.Attributes.{handlersFrom};
 ghost use Rattle.reader.specs.BuiltIns.{firstClass};
+ghost use Rattle.verifier.specs.Walk.{frameAt, meets, merged};
 ghost use Rattle.verifier.specs.Ancestry.{lineage};
 ghost use Rattle.verifier.specs.Slots.{held, Roomy, Outside};
 ghost use Rattle.verifier.specs.FrameRows.{framesOf, Laid};
 ghost use Rattle.verifier.specs.Handlers.{catchIn};
 ghost use Rattle.verifier.specs.Known.{factsOf, instrAfter};
 ghost use Rattle.verifier.specs.StepClaims.{stepBy, Going};
+ghost use Rattle.verifier.specs.Loads.{current};
 use crate::calls::Known;
 use crate::dispatch::ask;
 use crate::dispatch::hides;
 use crate::dispatch::jump;
 use crate::dispatch::leave;
 use crate::frames::Rows;
+use crate::frames::find;
+use crate::frames::load;
 use crate::handlers::all_handlers;
 use crate::instruction::Instr;
 use crate::site::Site;
 use crate::slots::Held;
+use crate::slots::fit_states;
 use crate::slots::peek;
 use crate::types::Kin;
 
@@ -42,7 +47,7 @@ fn one_step(
     k: Known,
     o: u16,
 ) -> Step
-    requires { ⌜ Roomy (now t) h × (h .depth ≤ 32) × (k .args .at + k .args .count ≤ length (now t) / 4) × Laid (now t) f × (kin .at + kin .count ≤ h .at) × (f .at + 68 * f .count ≤ h .at) × (x .classes ≤ 16) × (x .stack ≤ 32) × (x .table + 8 * x .entries ≤ length (now s)) ⌝ }
+    requires { ⌜ Roomy (now t) h × (h .depth ≤ 32) × (k .args .at + k .args .count ≤ length (now t) / 4) × Laid (now t) f × (kin .at + kin .count ≤ h .at) × (f .at + 68 * f .count ≤ h .at) × (x .classes ≤ 16) × (x .stack ≤ 32) × (x .table ≤ 2 ^ 63) × (x .entries ≤ 32) ⌝ }
     ensures says { λ r. ⌜ is (r .refusal) ≡ verdict (stepBy (lineage (now (t .entry)) (kin .at) (kin .count)) (catchIn (now (t .entry)) (x .class) (firstClass + x .classes)) (framesOf (now (t .entry)) f) (handlersFrom (now (s .entry)) (x .entries) (x .table)) (x .stack) (factsOf (now (t .entry)) k) o i (held (now (t .entry)) h)) ⌝ }
     ensures leaves { λ r. ⌜ (r .refusal ≡ 0 → held (now (t .exit)) (r .held) ≡ instrAfter (factsOf (now (t .entry)) k) o i (held (now (t .entry)) h)) ⌝ }
     ensures keeps { λ r. ⌜ Going h (r .held) × Outside (h .at) (now (t .entry)) (now (t .exit)) ⌝ }
@@ -68,5 +73,47 @@ fn one_step(
     Step {
         refusal: e,
         held: g,
+    }
+}
+
+// A present state must fit a frame standing at o, which replaces it; neither is 17.
+fn enter(t: &mut [u8], kin: Kin, f: Rows, live: bool, h: Held, o: usize) -> Step
+    requires { ⌜ Roomy (now t) h × (h .depth ≤ 32) × Laid (now t) f × (f .locals ≡ h .locals) × (f .at + 68 * f .count + 68 ≤ h .at) ⌝ }
+    ensures says { λ r. ⌜ is (r .refusal) ≡ verdict (meets (lineage (now (t .entry)) (kin .at) (kin .count)) (current live (held (now (t .entry)) h)) (frameAt (framesOf (now (t .entry)) f) o)) ⌝ }
+    ensures leaves { λ r. ⌜ (r .refusal ≡ 0 → held (now (t .exit)) (r .held) ≡ merged (current live (held (now (t .entry)) h)) (frameAt (framesOf (now (t .entry)) f) o)) ⌝ }
+    ensures keeps { λ r. ⌜ Going h (r .held) × Outside (h .at) (now (t .entry)) (now (t .exit)) ⌝ }
+{
+    let p = find(t, f, o);
+    let g = p.held;
+    if !p.there {
+        if live {
+            return Step {
+                refusal: 0,
+                held: h,
+            };
+        }
+        return Step {
+            refusal: 17,
+            held: h,
+        };
+    }
+    if live {
+        let a = fit_states(t, kin, h, g);
+        if a != 0 {
+            return Step {
+                refusal: a,
+                held: h,
+            };
+        }
+        let r = load(t, g, h.at);
+        return Step {
+            refusal: 0,
+            held: r,
+        };
+    }
+    let r = load(t, g, h.at);
+    Step {
+        refusal: 0,
+        held: r,
     }
 }

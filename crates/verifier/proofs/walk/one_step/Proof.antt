@@ -1,3 +1,4 @@
+use mathlib.Core.Logic.{inl}
 use Rattle.verifier.specs.Known.{factsOf}
 use Rattle.verifier.specs.StepClaims.{step-ask, step-hand, step-jump, hand-via, jump-outside, laid-outside, going-same, going-on}
 use Rattle.verifier.specs.SlotLaws.{length-stack, outside-none}
@@ -53,7 +54,7 @@ leave-requires c κs = search needs
 
 -- src/walk.rt:67:9
 jump-requires : tie.Need-jump-requires
-jump-requires c κs = (laid-outside _ _ _ _ (c .before .before .before .leave .ensures .2) (c .before .before .before .before .before .before .before .before .before .before .before .before .before .before .before .before .before .pre .5) (c .before .before .before .leave .kept .0) (c .before .before .before .before .before .before .before .before .before .before .before .before .before .before .before .before .before .pre .3), search needs)
+jump-requires c κs = (laid-outside _ _ _ _ (λ j l. c .before .before .before .leave .ensures .2 .kept j (inl l)) (c .before .before .before .before .before .before .before .before .before .before .before .before .before .before .before .before .before .pre .5) (c .before .before .before .leave .kept .0) (c .before .before .before .before .before .before .before .before .before .before .before .before .before .before .before .before .before .pre .3), search needs)
 
 -- src/walk.rt:34:1
 same-length-3 : tie.Need-same-length-3
@@ -61,7 +62,7 @@ same-length-3 c = search needs
 
 -- src/walk.rt:34:1
 returns-3 : tie.Need-returns-3
-returns-3 c = (step-jump _ _ _ _ _ _ _ _ _ _ (c .before .before .before .before .before .before .before .before .before .before .before .before .before .before .ask .ensures) (c .before .before .before .before .before .before .before .before .before .before .before .before .before .if1 .left) _ (hand-via _ _ _ _ _ _ _ _ (factsOf (c .before .before .before .before .before .before .before .before .before .before .before .before .before .before .before .before .before .before .args .t .now) (c .before .before .before .before .before .before .before .before .before .before .before .before .before .before .before .before .before .before .args .k)) _ _ _ _ (c .before .before .before .before .before .before .before .before .before .before .before .before .before .before .before .before .before .before .args .k .args .count) (c .before .before .before .before .before .before .before .all-handlers .ensures) (c .before .before .before .before .before .before .before .before .hides .ensures) (c .before .before .before .before .before .before .before .before .before .before .peek .ensures) (sym (length-stack _ _ _))) (c .before .before .before .before .before .before .if2 .left) _ (jump-outside _ _ _ (c .before .before .before .before .leave .ensures .2) _ _ _ _ _ _ (c .before .before .before .before .before .before .before .before .before .before .before .before .before .before .before .before .before .before .pre .4) (c .before .before .before .before .before .before .before .before .before .before .before .before .before .before .before .before .before .before .pre .3 .locals) (c .before .before .before .before .before .before .before .before .before .before .before .before .before .before .before .before .before .before .pre .5) (c .jump .ensures) _ (c .before .before .before .before .leave .ensures .1)), ((λ z. c .before .before .before .before .leave .ensures .1), (going-on _ _ _ _ _ _ _ (c .before .before .before .before .before .before .before .before .before .before .before .before .before .before .ask .ensures) (c .before .before .before .before .before .before .before .before .before .before .before .before .before .if1 .left) (c .before .before .before .before .before .before .before .before .before .before .before .before .before .before .before .before .before .before .pre .7) _ _ _ (c .before .before .before .before .leave .ensures .0) (c .before .before .before .before .leave .ensures .1), c .before .before .before .before .leave .ensures .2)))
+returns-3 c = (step-jump _ _ _ _ _ _ _ _ _ _ (c .before .before .before .before .before .before .before .before .before .before .before .before .before .before .ask .ensures) (c .before .before .before .before .before .before .before .before .before .before .before .before .before .if1 .left) _ (hand-via _ _ _ _ _ _ _ _ (factsOf (c .before .before .before .before .before .before .before .before .before .before .before .before .before .before .before .before .before .before .args .t .now) (c .before .before .before .before .before .before .before .before .before .before .before .before .before .before .before .before .before .before .args .k)) _ _ _ _ (c .before .before .before .before .before .before .before .before .before .before .before .before .before .before .before .before .before .before .args .k .args .count) (c .before .before .before .before .before .before .before .all-handlers .ensures) (c .before .before .before .before .before .before .before .before .hides .ensures) (c .before .before .before .before .before .before .before .before .before .before .peek .ensures) (sym (length-stack _ _ _))) (c .before .before .before .before .before .before .if2 .left) _ (jump-outside _ _ _ (λ j l. c .before .before .before .before .leave .ensures .2 .kept j (inl l)) _ _ _ _ _ _ (c .before .before .before .before .before .before .before .before .before .before .before .before .before .before .before .before .before .before .pre .4) (c .before .before .before .before .before .before .before .before .before .before .before .before .before .before .before .before .before .before .pre .3 .locals) (c .before .before .before .before .before .before .before .before .before .before .before .before .before .before .before .before .before .before .pre .5) (c .jump .ensures) _ (c .before .before .before .before .leave .ensures .1)), ((λ z. c .before .before .before .before .leave .ensures .1), (going-on _ _ _ _ _ _ _ (c .before .before .before .before .before .before .before .before .before .before .before .before .before .before .ask .ensures) (c .before .before .before .before .before .before .before .before .before .before .before .before .before .if1 .left) (c .before .before .before .before .before .before .before .before .before .before .before .before .before .before .before .before .before .before .pre .7) _ _ _ (c .before .before .before .before .leave .ensures .0) (c .before .before .before .before .leave .ensures .1), c .before .before .before .before .leave .ensures .2)))
 
 pub one-step-spec : {M : Type 1} → statement M
 one-step-spec =
