@@ -1,5 +1,5 @@
 -- What a method's site says: the method of the program that the scratch stands for, and the tables' words of it.
-use Prim.Native.Nat.{ℕ, _+_, _-_, _*_, _≤_, _<_}
+use Prim.Native.Nat.{ℕ, _+_, _-_, _*_, _^_, _≤_, _<_}
 use mathlib.Core.Path.{_≡_}
 use mathlib.Core.List.{List}
 use lib.ListN.{length, take}
@@ -57,7 +57,7 @@ pub record Bounded (s : List ℕ) (x : Site) : Type 0 where
   pub to : x .end ≤ length s
   pub size : x .end - x .start ≤ 4096
   pub entries : x .entries ≤ 32
-  pub table : x .table + 8 * x .entries ≤ length s
+  pub table : x .table + 8 * x .entries ≤ 2 ^ 35
   pub framesFrom : x .frames ≤ x .last
   pub framesTo : x .last ≤ length s
 
