@@ -7,24 +7,25 @@ use native.Mathlib.Omega.{arith}
 use lib.Dec.{ltb, eqb}
 use lib.ListN.{length, getD, take, length-take}
 use borrow.Author.Tests.{ltb-false, eqb-false}
-use Rattle.kit.specs.Lists.{length-part}
+use Rattle.kit.specs.Lists.{eqList, length-part}
 use Rattle.kit.specs.Scan.{firstNot}
 use Rattle.kit.specs.Words.{word}
-use Rattle.reader.specs.Limits.{maxPoolCount, maxFields, maxMethods, maxParameters, maxClasses, maxBundle, maxDimensions}
-use Rattle.reader.specs.Reading.{Res, ok, bad, andThen, pre, many, num2At, shortAt, u2, part}
-use Rattle.reader.specs.Ends.{Holds, holds-of, then-holds, any-holds, cond-holds}
-use Rattle.reader.specs.Names.{Text, className, isInit}
+use Rattle.reader.specs.Limits.{maxStackLimit, maxLocalsLimit, maxCode, maxTableEntries, maxPoolCount, maxFields, maxMethods, maxParameters, maxClasses, maxBundle, maxDimensions}
+use Rattle.reader.specs.Reading.{Res, ok, bad, andThen, pre, many, sumAt, u2At, u4At, num2At, num4At, skipAt, shortAt, u2, u4, part}
+use Rattle.reader.specs.Ends.{Holds, holds-of, then-holds, any-holds, cond-holds, skip-holds}
+use Rattle.reader.specs.Names.{Text, Code, className, isInit}
 use Rattle.reader.specs.Descriptors.{MethodType, semicolon, methodTypeAt}
 use Rattle.reader.specs.Shapes.{Arity, arity, seen, namedShape, baseShape, typeShape, paramsShape, resultsShape, methodShape, method-shape}
 use Rattle.reader.specs.Pool.{Constant, text, constants, entryFault, checkedAt, judgedAt, entryAt, tagsAt, poolAt, utf8IndexAt}
 use Rattle.reader.specs.Table.{poolIn, length-pool, length-constants}
-use Rattle.reader.specs.Members.{Member, accessAt, nameAt, slots, methodTypeOk, descriptorAt, attributesAt, memberAt}
+use Rattle.reader.specs.Members.{Found, none, once, twice, another, Handler, Body, Member, innersAt, codeAt, handlerAt, tableAt, bodyAt, attributeAt, accessAt, nameAt, slots, methodTypeOk, descriptorAt, attributesAt, memberAt}
+use Rattle.reader.specs.Attributes.{foundOf, handlersFrom, tableFrom, bodyOf, memberOf}
 use Rattle.reader.specs.Bundle.{ClassFile, magicAt, versionAt, classAccessAt, thisAt, superAt, interfacesAt, membersAt, classFileAt, classFilesAt, bundleAt}
 use Rattle.reader.specs.Program.{methodTypeOr}
-use Rattle.reader.specs.Blocks.{blockSize, poolWord, poolOf, classIn, classesIn}
+use Rattle.reader.specs.Blocks.{blockSize, poolWord, methodRows, poolOf, rowIn, classIn, classesIn}
 use Rattle.reader.specs.Numbers.{classAt}
 use Rattle.reader.specs.Chains.{counted, there}
-use Rattle.reader.specs.MemberRows.{blockAt, rowCount, rowAt}
+use Rattle.reader.specs.MemberRows.{blockAt, rowsWord, rowCount, rowAt}
 use Rattle.reader.specs.MemberClaims.{length-members, member-is}
 use Rattle.reader.specs.Access.{Limited}
 
@@ -115,6 +116,97 @@ module _ (t : Text) (p q : ℕ) where
       (λ n a. then-leads (resultsShape t p a) (resultsShape t q a) _ _ (results-leads a) (λ m e. cond-leads (eqb e (length t)) (ok (arity n m) e) (ok (arity n m) e) (bad 7 p) (bad 7 q) refl tt)))
       tt
 
+one-more : (n : ℕ) → (n ≡ 0 → ⊥) → suc (n - 1) ≡ n
+one-more zero h = absurd (h refl)
+one-more (suc n) h = omega arith
+
+-- ---- Code
+pub record Fits (b : Body) : Type 0 where
+  pub stack : b .maxStack ≤ maxStackLimit
+  pub locals : b .maxLocals ≤ maxLocalsLimit
+  pub some : 0 < length (b .code)
+  pub code : length (b .code) ≤ maxCode
+  pub table : length (b .table) ≤ maxTableEntries
+
+abbrev pub BodyFits : Found Body → Type 0
+BodyFits none = Unit {0}
+BodyFits (once b) = Fits b
+BodyFits twice = Unit {0}
+
+another-fits : (f g : Found Body) → BodyFits f → BodyFits g → BodyFits (another f g)
+unfolding another
+another-fits none none h k = tt
+another-fits (once b) none h k = h
+another-fits twice none h k = tt
+another-fits none (once a) h k = k
+another-fits (once b) (once a) h k = tt
+another-fits twice (once a) h k = tt
+another-fits none twice h k = tt
+another-fits (once b) twice h k = tt
+another-fits twice twice h k = tt
+
+sum-fits : (f : ℕ → Res (Found Body)) → ((q : ℕ) → Holds (λ v e. BodyFits v) (f q)) → (n : ℕ) (b : Found Body) (q : ℕ) → BodyFits b → Holds (λ v e. BodyFits v) (sumAt f another n b q)
+unfolding sumAt
+sum-fits f h zero b q k = k
+sum-fits f h (suc n) b q k =
+    then-holds (λ v e. BodyFits v) (λ v e. BodyFits v) (f q) _ (h q) (λ a e g. sum-fits f h n (another b a) e (another-fits b a k g))
+
+length-cut : (s : List ℕ) (a n e : ℕ) → a + n ≤ e → e ≤ length s → length (part s a n) ≡ n
+unfolding part
+length-cut s a n e h l = length-part a n s (omega arith)
+
+module _ (s : List ℕ) (pool : List Constant) (e p : ℕ) (l : e ≤ length s) where
+  code-fits : (q : ℕ) → Holds (λ c a. (0 < length c) × (length c ≤ maxCode)) (codeAt s pool e p q)
+  unfolding codeAt
+  code-fits q =
+      any-holds C (num4At s e 7 p q) _ (λ n a. test-holds C (eqb n 0) _ _ (λ z. tt) (λ z. test-holds C (ltb maxCode n) _ _ (λ y. tt) (λ y.
+      then-holds (λ v d. (v ≡ a) × (d ≡ a + n) × (d ≤ e)) C (skipAt e 7 p n a) _ (skip-holds e 7 p n a) (λ b d h.
+      let w : length (part s b n) ≡ n = length-cut s b n e (omega (arith, h .0, h .1, h .2)) l in
+      (omega (arith, one-more n (eqb-false n 0 z)), omega (arith, ltb-false maxCode n y))))))
+    where
+      C : List ℕ → ℕ → Type 0
+      C c a = (0 < length c) × (length c ≤ maxCode)
+
+  table-fits : (q : ℕ) → Holds (λ t a. length t ≤ maxTableEntries) (tableAt s pool e p q)
+  unfolding tableAt handlerAt
+  table-fits q =
+      then-holds (λ v a. v ≤ maxTableEntries) L (shortAt s e 7 p maxTableEntries q) _ (short-holds s e 7 p maxTableEntries q) (λ n a h.
+      any-holds L (skipAt e 7 p (8 * n) a) _ (λ b d. few n h (many (handlerAt s pool e p) n b) (many-items (λ _. Unit {0}) (handlerAt s pool e p) (λ r. tt) n b)))
+    where
+      L : List Handler → ℕ → Type 0
+      L t a = length t ≤ maxTableEntries
+
+      few : (n : ℕ) → n ≤ maxTableEntries → (x : Res (List Handler)) → Holds (Items (λ _. Unit {0}) n) x → Holds L x
+      few n h (ok v e) k = omega (arith, k .0)
+      few n h (bad m p) k = tt
+
+  body-fits : (q : ℕ) → Holds (λ v a. BodyFits v) (bodyAt s pool e p q)
+  unfolding bodyAt
+  body-fits q =
+      then-holds (λ v a. v ≤ maxStackLimit) B (shortAt s e 7 p maxStackLimit q) _ (short-holds s e 7 p maxStackLimit q) (λ stack a hs.
+      then-holds (λ v a. v ≤ maxLocalsLimit) B (shortAt s e 7 p maxLocalsLimit a) _ (short-holds s e 7 p maxLocalsLimit a) (λ locals b hl.
+      then-holds (λ c a. (0 < length c) × (length c ≤ maxCode)) B (codeAt s pool e p b) _ (code-fits b) (λ code c hc.
+      then-holds (λ t a. length t ≤ maxTableEntries) B (tableAt s pool e p c) _ (table-fits c) (λ table d ht.
+      any-holds B (innersAt s pool e p d) _ (λ frames f. cond-holds B (eqb f e) (ok (once (record { maxStack = stack; maxLocals = locals; code = code; table = table; frames = frames })) f) (bad 7 p) (record { stack = hs; locals = hl; some = hc .0; code = hc .1; table = ht }) tt)))))
+    where
+      B : Found Body → ℕ → Type 0
+      B v a = BodyFits v
+
+module _ (s : List ℕ) (pool : List Constant) where
+  attribute-fits : (q : ℕ) → Holds (λ v a. BodyFits v) (attributeAt s pool true q)
+  unfolding attributeAt
+  attribute-fits q =
+      any-holds B (utf8IndexAt s pool q) _ (λ i a. any-holds B (u4 s a) _ (λ n b.
+      then-holds (λ v d. (v ≡ b) × (d ≡ b + n) × (d ≤ length s)) B (skipAt (length s) 2 b n b) _ (skip-holds (length s) 2 b n b) (λ c d h.
+      cond-holds B (eqList (text pool i) Code) (bodyAt s pool d q c) (ok none d) (body-fits s pool d q (h .2) c) tt)))
+    where
+      B : Found Body → ℕ → Type 0
+      B v a = BodyFits v
+
+  attributes-fits : (q : ℕ) → Holds (λ v a. BodyFits v) (attributesAt s pool true q)
+  unfolding attributesAt
+  attributes-fits q = any-holds (λ v a. BodyFits v) (u2 s q) _ (λ n a. sum-fits (attributeAt s pool true) attribute-fits n none a tt)
+
 -- ---- parameters
 abbrev pub FewParams : Text → Type 0
 FewParams t = (number : Text → ℕ) → length (methodTypeOr (methodTypeAt number t 0) .params) ≤ maxParameters
@@ -136,6 +228,10 @@ params-few t q m e h l number = go (methodTypeAt number t 0) (method-shape numbe
     go (ok y d) z = let w : length (y .params) ≡ length (m .params) = ap countIn (z ∙ there′) in omega arith
     go (bad n p) z = omega arith
 
+-- a method as phase A lets it pass
+abbrev pub MethodFits : Member → Type 0
+MethodFits m = FewParams (m .descriptor) × BodyFits (m .body)
+
 module _ (s : List ℕ) (pool : List Constant) where
   slots-few : (access n : ℕ) (ps : MethodType) → slots s pool access (ps .params) ≤ n → length (ps .params) ≤ n
   unfolding slots
@@ -150,13 +246,13 @@ module _ (s : List ℕ) (pool : List Constant) where
       (λ z. let k : FewParams (text pool i) = params-few (text pool i) q m e h (slots-few access maxParameters m (ltb-false maxParameters (slots s pool access (m .params)) z)) in
       cond-holds (λ t e. FewParams t) (isInit name) _ _ (cond-holds (λ t e. FewParams t) (eqb (length (m .results)) 0) (ok (text pool i) a) (bad 7 q) k tt) k)))
 
-  member-few : (q : ℕ) → Holds (λ m e. FewParams (m .descriptor)) (memberAt s pool true q)
+  method-fits : (q : ℕ) → Holds (λ m e. MethodFits m) (memberAt s pool true q)
   unfolding memberAt
-  member-few q =
-      any-holds (λ m e. FewParams (m .descriptor)) (accessAt s pool true q) _ (λ access a.
-      any-holds (λ m e. FewParams (m .descriptor)) (nameAt s pool true access q a) _ (λ name b.
-      then-holds (λ t e. FewParams t) (λ m e. FewParams (m .descriptor)) (descriptorAt s pool true access name b) _ (descriptor-few access name b) (λ descriptor c h.
-      any-holds (λ m e. FewParams (m .descriptor)) (attributesAt s pool true c) _ (λ body e. h))))
+  method-fits q =
+      any-holds (λ m e. MethodFits m) (accessAt s pool true q) _ (λ access a.
+      any-holds (λ m e. MethodFits m) (nameAt s pool true access q a) _ (λ name b.
+      then-holds (λ t e. FewParams t) (λ m e. MethodFits m) (descriptorAt s pool true access name b) _ (descriptor-few access name b) (λ descriptor c h.
+      then-holds (λ v e. BodyFits v) (λ m e. MethodFits m) (attributesAt s pool true c) _ (attributes-fits s pool c) (λ body e k. (h, k)))))
 
   section-few : (Q : Member → Type 0) (method : Bool) (most q : ℕ) → ((p : ℕ) → Holds (λ m e. Q m) (memberAt s pool method p)) → Holds (λ l e. (length l ≤ most) × Every Q l) (membersAt s pool method most q)
   unfolding membersAt
@@ -169,10 +265,6 @@ module _ (s : List ℕ) (pool : List Constant) where
       few n a l (bad m p) k = tt
 
 -- ---- pools
-one-more : (n : ℕ) → (n ≡ 0 → ⊥) → suc (n - 1) ≡ n
-one-more zero h = absurd (h refl)
-one-more (suc n) h = omega arith
-
 checked-few : (tags : List ℕ) (pool : List Constant) (e n : ℕ) → length pool ≤ n → Holds (λ p a. length p ≤ n) (checkedAt tags pool e)
 unfolding checkedAt judgedAt
 checked-few tags pool e n h =
@@ -202,7 +294,7 @@ pub record Modest (f : ClassFile) : Type 0 where
   pub pool : length (f .pool) ≤ maxPoolCount
   pub fields : length (f .fields) ≤ maxFields
   pub methods : length (f .methods) ≤ maxMethods
-  pub params : Every (λ (m : Member). FewParams (m .descriptor)) (f .methods)
+  pub each : Every MethodFits (f .methods)
 
 module _ (s : List ℕ) where
   abbrev M : ClassFile → ℕ → Type 0
@@ -215,8 +307,8 @@ module _ (s : List ℕ) where
       then-holds (λ p e. length p ≤ maxPoolCount) M (poolAt s b) _ (pool-few s b) (λ pool c hp.
       any-holds M (classAccessAt s c) _ (λ _ d. any-holds M (thisAt s pool d) _ (λ name e. any-holds M (superAt s pool e) _ (λ super f. any-holds M (interfacesAt s f) _ (λ _ g.
       then-holds (λ l e. (length l ≤ maxFields) × Every (λ _. Unit {0}) l) M (membersAt s pool false maxFields g) _ (section-few s pool (λ _. Unit {0}) false maxFields g (λ p. all (memberAt s pool false p))) (λ fields h hf.
-      then-holds (λ l e. (length l ≤ maxMethods) × Every (λ (m : Member). FewParams (m .descriptor)) l) M (membersAt s pool true maxMethods h) _ (section-few s pool (λ (m : Member). FewParams (m .descriptor)) true maxMethods h (member-few s pool)) (λ methods i hm.
-      any-holds M (attributesAt s pool false i) _ (λ _ j. record { pool = hp; fields = hf .0; methods = hm .0; params = hm .1 }))))))))))
+      then-holds (λ l e. (length l ≤ maxMethods) × Every MethodFits l) M (membersAt s pool true maxMethods h) _ (section-few s pool MethodFits true maxMethods h (method-fits s pool)) (λ methods i hm.
+      any-holds M (attributesAt s pool false i) _ (λ _ j. record { pool = hp; fields = hf .0; methods = hm .0; each = hm .1 }))))))))))
     where
       all : {A : Type 0} (x : Res A) → Holds (λ v e. Unit {0}) x
       all (ok v e) = tt
@@ -266,7 +358,36 @@ module _ (s t : List ℕ) (n e : ℕ) (h : bundleAt s ≡ ok (classesIn s t n) e
             length-part (blockSize * c) blockSize t (omega arith),
           )
 
-  pub few-params : (c j : ℕ) → c < n → j < rowCount (blockAt t c) true → FewParams (rowAt s (blockAt t c) true j .descriptor)
-  few-params c j l g =
-      subst (λ (m : Member). FewParams (m .descriptor)) (member-is s t c true j (rowAt s (blockAt t c) true j) g)
-      (class-at-modest c l .params j (rowAt s (blockAt t c) true j) (rw (length-members s t c true) g))
+  pub method-fit : (c j : ℕ) → c < n → j < rowCount (blockAt t c) true → MethodFits (rowAt s (blockAt t c) true j)
+  method-fit c j l g =
+      subst MethodFits (member-is s t c true j (rowAt s (blockAt t c) true j) g)
+      (class-at-modest c l .each j (rowAt s (blockAt t c) true j) (rw (length-members s t c true) g))
+
+-- ---- the same of the words of a method's row
+pub record CodeLimits (s : List ℕ) (q : ℕ) : Type 0 where
+  pub stack : u2At s q ≤ maxStackLimit
+  pub locals : u2At s (q + 2) ≤ maxLocalsLimit
+  pub some : 0 < length (part s (q + 8) (u4At s (q + 4)))
+  pub code : length (part s (q + 8) (u4At s (q + 4))) ≤ maxCode
+  pub entries : u2At s (tableFrom s q) ≤ maxTableEntries
+
+length-handlers : (s : List ℕ) (n q : ℕ) → length (handlersFrom s n q) ≡ n
+unfolding handlersFrom
+length-handlers s zero q = refl
+length-handlers s (suc n) q = ap suc (length-handlers s n (q + 8))
+
+body-limits : (s : List ℕ) (q : ℕ) (f : Found (List ℕ)) → Fits (bodyOf s q f) → CodeLimits s q
+unfolding bodyOf
+body-limits s q f h = record {
+  stack = h .stack;
+  locals = h .locals;
+  some = h .some;
+  code = h .code;
+  entries = rw (← length-handlers s (u2At s (tableFrom s q)) (tableFrom s q + 2)) (h .table);
+}
+
+pub row-limits : (s b : List ℕ) (j : ℕ) → BodyFits (rowAt s b true j .body) → word b (methodRows + 6 * j + 1) ≡ 1 → CodeLimits s (word b (methodRows + 6 * j + 2))
+unfolding rowAt rowsWord rowIn memberOf foundOf
+row-limits s b j h e =
+    let f = cond (eqb (word b (methodRows + 6 * j + 3)) 0) none (cond (eqb (word b (methodRows + 6 * j + 3)) 1) (once (part s (word b (methodRows + 6 * j + 4)) (word b (methodRows + 6 * j + 5)))) twice) in
+    body-limits s (word b (methodRows + 6 * j + 2)) f (rw e at h)

@@ -21,13 +21,13 @@ use Rattle.reader.specs.Program.{method, methodOf, programOf}
 use Rattle.reader.specs.Link.{uniqueClass, memberClaims, linked, Read, refused, program, orRefused, readAs, readBundle}
 use Rattle.reader.specs.Blocks.{blockSize, classesIn}
 use Rattle.reader.specs.Linked.{parentsAt, filesIn, Parents, rulingOf, classRuling, ClassesLinked, files-front}
-use Rattle.reader.specs.MemberRows.{blockAt, rowCount}
+use Rattle.reader.specs.MemberRows.{blockAt, rowCount, rowAt}
 use Rattle.reader.specs.MemberAt.{numberAs, method-at}
 use Rattle.reader.specs.TypeCodes.{typesEnd, paramsIn, resultsIn}
 use Rattle.reader.specs.Access.{Limited}
 use Rattle.reader.specs.MethodTypes.{Ready, TypesTo, front-take, front-parents}
 use Rattle.reader.specs.MemberPass.{programIn, MembersRuled}
-use Rattle.reader.specs.FileLimits.{limited, few-params}
+use Rattle.reader.specs.FileLimits.{BodyFits, MethodFits, limited, method-fit}
 use Rattle.reader.specs.declared.items.Got.{Got}
 use Rattle.reader.specs.declared.link.Linked.{Linked}
 use Rattle.reader.specs.declared.whole.Reading.{Reading}
@@ -103,7 +103,7 @@ module _ (s : List ℕ) (n : ℕ) (t u : List ℕ) (m : n ≤ 16) (a : Linked) (
         moved : Parents s n u → Parents s n v
         moved p = front-parents u v (y .front) s n m p
 
--- ---- what is left in the scratch: n classes, their limits, their parents' numbers and the types of their methods
+-- ---- what is left in the scratch: n classes, their limits, their parents' numbers, and the types of their methods
 pub record MethodTypes (s : List ℕ) (n : ℕ) (t : List ℕ) : Type 0 where
   pub params : (c j : ℕ) → c < n → j < rowCount (blockAt t c) true → paramsIn t (64 * c + j) ≡ method (programIn s n t) (firstClass + c) j .params
   pub results : (c j : ℕ) → c < n → j < rowCount (blockAt t c) true → resultsIn t (64 * c + j) ≡ method (programIn s n t) (firstClass + c) j .results
@@ -116,6 +116,7 @@ pub record Tables (s : List ℕ) (n : ℕ) (t : List ℕ) : Type 0 where
   pub limited : Limited n t
   pub parents : Parents s n t
   pub types : MethodTypes s n t
+  pub bodies : (c j : ℕ) → c < n → j < rowCount (blockAt t c) true → BodyFits (rowAt s (blockAt t c) true j .body)
 
 -- the answer as the meaning's
 abbrev pub readOf : List ℕ → Reading → List ℕ → Read
@@ -147,6 +148,9 @@ module _ (s t : List ℕ) (g : Got) (e : resAs g (classesIn s t (g .val)) ≡ bu
     ruled-now : rulingOf r ≡ linked (filesIn s (g .val) u) (programIn s (g .val) u)
     ruled-now = x .is ∙ ap (λ (fs : List ClassFile). linked fs (programOf fs)) (files-front s t (g .val) m ∙ sym files-now)
 
+    fit : (c j : ℕ) → c < g .val → j < rowCount (blockAt u c) true → MethodFits (rowAt s (blockAt u c) true j)
+    fit c j h k = method-fit s u (g .val) (g .at) (read-now ∙ ap (λ (fs : List ClassFile). ok fs (g .at)) (files-front s u (g .val) m)) c j h k
+
     types-whole : TypesTo s (g .val) u (64 * g .val) → MethodTypes s (g .val) u
     unfolding methodOf
     types-whole y = record {
@@ -163,7 +167,7 @@ module _ (s t : List ℕ) (g : Got) (e : resAs g (classesIn s t (g .val)) ≡ bu
         few : (c j : ℕ) → c < g .val → j < rowCount (blockAt u c) true → length (method (programIn s (g .val) u) (firstClass + c) j .params) ≤ maxParameters
         few c j h k =
             rw (method-at s (g .val) u m c h j k)
-            (few-params s u (g .val) (g .at) (read-now ∙ ap (λ (fs : List ClassFile). ok fs (g .at)) (files-front s u (g .val) m)) c j h k (numberAs s (g .val) u))
+            (fit c j h k .0 (numberAs s (g .val) u))
 
     pub read-ok : IsReading s (record { ok = eqb (r .number) 0; number = r .number; class = r .class; place = r .place; classes = g .val }) u
     unfolding readBundle readAs orRefused
@@ -177,6 +181,7 @@ module _ (s t : List ℕ) (g : Got) (e : resAs g (classesIn s t (g .val)) ≡ bu
         limited = same-limited (g .val) t u m (x .blocks) read-limited;
         parents = x .parents w;
         types = types-whole (x .types w);
+        bodies = λ c j h k. fit c j h k .1;
       };
     }
       where
