@@ -34,6 +34,14 @@ pub mod SiteLaws
 pub mod Handlers
 pub mod StepClaims
 pub mod Loads
+pub mod Marks
+pub mod LineLaws
+pub mod MarkLaws
+pub mod TraitLaws
+pub mod ScanLaws
+pub mod Shaping
+pub mod ShapeLaws
+pub mod ShapeWhole
 pub mod Verify
 pub mod Computing
 pub mod Laws

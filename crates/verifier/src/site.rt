@@ -18,3 +18,9 @@ pub struct Site {
     pub constructor: bool,
     pub fixed: bool,
 }
+
+// A ruling on a method: 0, or a verdict's number and its place.
+pub struct Ruled {
+    pub number: u32,
+    pub place: usize,
+}
