@@ -1,6 +1,6 @@
 // Phase C of one method: 10, all 11, then 12 and 13 in order, then the exception table.
 ghost use mathlib.Core.Path.{_≡_};
-ghost use Prim.Native.Nat.{_+_, _*_, _<_, _≤_};
+ghost use Prim.Native.Nat.{_+_, _*_, _^_, _<_, _≤_};
 ghost use mathlib.Core.Bool.{cond};
 ghost use lib.ListN.{length};
 ghost use Rattle.reader.specs.TypeCodes.{paramsIn};
@@ -128,7 +128,7 @@ fn catch_class(t: &[u8], x: Site, c: usize) -> u32
 
 // A handler's range and target, at q.
 fn range_ok(s: &[u8], t: &[u8], x: Site, q: usize) -> bool
-    requires { ⌜ Ready (now s) (now t) x × (q + 8 ≤ length (now s)) ⌝ }
+    requires { ⌜ Ready (now s) (now t) x × (q + 8 ≤ 2 ^ 35) ⌝ }
     ensures { λ r. ⌜ r ≡ rangeOk (methodAt (now (s .entry)) (front (now (t .entry))) x) (linesAt (now (s .entry)) (now (t .entry)) x) (entryAt (now (s .entry)) q) ⌝ }
 {
     let from = items::u2_at(s, q);
@@ -150,7 +150,7 @@ fn range_ok(s: &[u8], t: &[u8], x: Site, q: usize) -> bool
 
 // It catches a class that can be thrown.
 fn catch_ok(s: &[u8], t: &[u8], x: Site, q: usize) -> bool
-    requires { ⌜ Ready (now s) (now t) x × (q + 8 ≤ length (now s)) ⌝ }
+    requires { ⌜ Ready (now s) (now t) x × (q + 8 ≤ 2 ^ 35) ⌝ }
     ensures { λ r. ⌜ r ≡ catchOk (programAt (now (s .entry)) (front (now (t .entry))) x) (methodAt (now (s .entry)) (front (now (t .entry))) x) (entryAt (now (s .entry)) q) ⌝ }
 {
     let c = catch_class(t, x, items::u2_at(s, q + 6));

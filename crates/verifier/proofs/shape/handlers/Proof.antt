@@ -1,5 +1,5 @@
 use borrow.Author.Needs.{needs}
-use Prim.Native.Nat.{_+_, _*_, _≤_}
+use Prim.Native.Nat.{_+_, _*_, _^_, _≤_}
 use mathlib.Core.Path.{_≡_, refl}
 use native.Mathlib.Omega.{arith}
 use lib.ListN.{length}
@@ -18,7 +18,7 @@ use Rattle.verifier.proofs.shape.catch_ok.Reads as catch-ok-reads
 use Rattle.verifier.proofs.shape.range_ok.Reads as range-ok-reads
 
 abbrev Inv-loop : tie.InvT-loop
-Inv-loop s t x q₀ left₀ q left = (verdict (tableClaims (programAt s (front t) x) (methodAt s (front t) x) (linesAt s t x) (handlersFrom s left q)) ≡ verdict (tableClaims (programAt s (front t) x) (methodAt s (front t) x) (linesAt s t x) (handlersFrom s (x .entries) (x .table)))) × (q + 8 * left ≤ length s)
+Inv-loop s t x q₀ left₀ q left = (verdict (tableClaims (programAt s (front t) x) (methodAt s (front t) x) (linesAt s t x) (handlersFrom s left q)) ≡ verdict (tableClaims (programAt s (front t) x) (methodAt s (front t) x) (linesAt s t x) (handlersFrom s (x .entries) (x .table)))) × (q + 8 * left ≤ 2 ^ 35)
 
 abbrev μ-loop : tie.MeasureT-loop
 μ-loop s t x q₀ left₀ q left = left
