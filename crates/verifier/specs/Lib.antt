@@ -34,6 +34,10 @@ pub mod SiteLaws
 pub mod Handlers
 pub mod StepClaims
 pub mod Loads
+pub mod Callees
+pub mod Preparing
+pub mod Lineup
+pub mod Walks
 pub mod Marks
 pub mod LineLaws
 pub mod MarkLaws

@@ -1,4 +1,5 @@
 // Phases C and D. The definitions are in specs/.
+pub mod callees;
 pub mod calls;
 pub mod codes;
 pub mod decode;

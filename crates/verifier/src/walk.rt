@@ -13,8 +13,13 @@ ghost use Rattle.verifier.specs.Handlers.{catchIn};
 ghost use Rattle.verifier.specs.Known.{factsOf, instrAfter};
 ghost use Rattle.verifier.specs.StepClaims.{stepBy, Going};
 ghost use Rattle.verifier.specs.Loads.{current};
+ghost use Rattle.verifier.specs.Lineup.{Walking, LineDone};
+ghost use Rattle.verifier.specs.Walks.{Ended, Walked};
+use crate::callees::known;
 use crate::calls::Known;
+use crate::decode;
 use crate::dispatch::ask;
+use crate::dispatch::falls_on;
 use crate::dispatch::hides;
 use crate::dispatch::jump;
 use crate::dispatch::leave;
@@ -23,6 +28,7 @@ use crate::frames::find;
 use crate::frames::load;
 use crate::handlers::all_handlers;
 use crate::instruction::Instr;
+use crate::opcodes::size_at;
 use crate::site::Site;
 use crate::slots::Held;
 use crate::slots::fit_states;
@@ -116,4 +122,106 @@ fn enter(t: &mut [u8], kin: Kin, f: Rows, live: bool, h: Held, o: usize) -> Step
         refusal: 0,
         held: r,
     }
+}
+
+// What a line leaves: a refusal, 0 for none; whether a state goes on, and where it stands.
+pub struct Turn {
+    pub refusal: u32,
+    pub live: bool,
+    pub held: Held,
+}
+
+// The instruction at o, in the state h where one is live.
+fn one_line(s: &[u8], t: &mut [u8], x: Site, kin: Kin, f: Rows, live: bool, h: Held, o: u16) -> Turn
+    requires { ⌜ Walking (now s) (now t) x kin f h ⌝ }
+    ensures { λ r. ⌜ LineDone (now (s .entry)) (now (t .entry)) (now (t .exit)) x f live h o r ⌝ }
+{
+    let e = enter(t, kin, f, live, h, o as usize);
+    let g = e.held;
+    if e.refusal != 0 {
+        return Turn {
+            refusal: e.refusal,
+            live: false,
+            held: g,
+        };
+    }
+    let from = x.start;
+    let to = x.end;
+    let code = &s[from..to];
+    let i = decode::instruction(s, t, x.class, code, o as usize);
+    let k = known(s, t, x, g, i);
+    let r = one_step(s, t, x, kin, f, g, i, k, o);
+    let q = r.held;
+    Turn {
+        refusal: r.refusal,
+        live: falls_on(i),
+        held: q,
+    }
+}
+
+// The first refusal of a walk with its place; 0 for none.
+pub struct Answer {
+    pub refusal: u32,
+    pub place: usize,
+}
+
+// A state at the code's end is 17 there.
+fn ended(live: bool, end: usize) -> Answer
+    ensures { λ r. ⌜ Ended live end r ⌝ }
+{
+    if live {
+        return Answer {
+            refusal: 17,
+            place: end,
+        };
+    }
+    Answer {
+        refusal: 0,
+        place: 0,
+    }
+}
+
+// The walk over the code at x from the state h: lines in order, by offset.
+pub fn over_lines(s: &[u8], t: &mut [u8], x: Site, kin: Kin, f: Rows, h: Held) -> Answer
+    requires { ⌜ Walking (now s) (now t) x kin f h ⌝ }
+    ensures { λ r. ⌜ Walked (now (s .entry)) (now (t .entry)) (now (t .exit)) x f h r ⌝ }
+{
+    let from = x.start;
+    let to = x.end;
+    let code = &s[from..to];
+    let end = code.len();
+    let mut o = 0;
+    let mut live = true;
+    let mut depth = h.depth;
+    let mut flag = h.flag;
+    let mut left = end;
+    while 0 < left {
+        if end <= o {
+            return ended(live, end);
+        }
+        let g = Held {
+            at: h.at,
+            locals: h.locals,
+            depth,
+            flag,
+        };
+        let r = one_line(s, t, x, kin, f, live, g, o as u16);
+        let q = r.held;
+        if r.refusal != 0 {
+            return Answer {
+                refusal: r.refusal,
+                place: o,
+            };
+        }
+        live = r.live;
+        depth = q.depth;
+        flag = q.flag;
+        let n = size_at(code, o);
+        if n == 0 {
+            return ended(live, end);
+        }
+        o += n;
+        left -= 1;
+    }
+    ended(live, end)
 }
