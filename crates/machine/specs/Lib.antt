@@ -12,3 +12,5 @@ pub mod Objects
 pub mod Windows
 pub mod Turns
 pub mod WindowForms
+pub mod HeapTurns
+pub mod HeapForms

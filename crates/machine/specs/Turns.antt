@@ -1,19 +1,18 @@
 -- Steps by their tests: what the code's answers come to in every context that stands where the code does. Assumes nothing.
-use Prim.Native.Nat.{ℕ, zero, suc, _+_, _-_, _<_, _≤_}
+use Prim.Native.Nat.{ℕ, zero, suc, _+_, _<_, _≤_, _-_}
 use mathlib.Core.Path.{_≡_, refl, sym, ap, _∙_}
-use mathlib.Core.Bool.{Bool, true, false, cond, not}
+use mathlib.Core.Bool.{Bool, true, false, not}
 use mathlib.Core.List.{List, [], _∷_}
 use native.Mathlib.Nat.{zero-add}
 use native.Mathlib.Omega.{arith}
-use borrow.Author.Tests.{lt-ltb, le-ltb, lt-leb, le-leb, eq-eqb, ne-eqb, not-true, not-false}
-use lib.Dec.{eqb, ltb, leb}
-use lib.ListN.{length, getD, set}
+use borrow.Author.Tests.{lt-leb, le-leb, eq-eqb, ne-eqb, not-true, not-false}
+use lib.Dec.{eqb}
+use lib.ListN.{length, set}
 use Rattle.reader.specs.Program.{Program}
-use Rattle.verifier.specs.Opcodes.{body}
-use Rattle.machine.specs.Heap.{Heap, heap, Val, num, ref}
-use Rattle.machine.specs.Machine.{stuck, Result, next, stopped, Here, methodAt, resumed, only, goOn, push, fault}
+use Rattle.machine.specs.Heap.{heap, Val, num}
+use Rattle.machine.specs.Machine.{stuck, Result, stopped, Here, only, goOn}
 use Rattle.machine.specs.ValueLaws.{valueOf}
-use Rattle.machine.specs.Windows.{locsOf, opsOf, turnOf, Sized, Stands, Goes, going, pushing, storing, choosing, either, faulting, ops-put, locs-put, local-put, ops-local, length-ops, length-locs, set-past}
+use Rattle.machine.specs.Windows.{locsOf, turnOf, Sized, Stands, Goes, going, pushing, storing, choosing, either, faulting, ops-put, locs-put, local-put, ops-local, length-ops, length-locs, set-past}
 use Rattle.machine.specs.declared.window.Place.{Place}
 use Rattle.machine.specs.declared.window.Turn.{Turn}
 
@@ -202,5 +201,8 @@ untrue b t q e = sym e ∙ not-true b q
 
 pub holds-so : (b t : Bool) → not b ≡ false → b ≡ t → t ≡ true
 holds-so b t q e = sym e ∙ not-false b q
+
+pub told : (q t b : Bool) → q ≡ b → q ≡ t → t ≡ b
+told q t b e f = sym f ∙ e
 
 pub ruleset decided = (untrue, holds-so, lt-leb, le-leb)

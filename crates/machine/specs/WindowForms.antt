@@ -1,23 +1,23 @@
 -- The forms that touch the running call's window alone, by the code's tests. Assumes nothing.
-use Prim.Native.Nat.{ℕ, zero, suc, _+_, _-_, _<_, _≤_}
+use Prim.Native.Nat.{ℕ, zero, suc, _+_, _<_, _≤_, _-_}
 use mathlib.Core.Path.{_≡_, refl, sym, ap, subst, _∙_}
 use mathlib.Core.Bool.{Bool, true, false, cond, not}
 use mathlib.Core.List.{List, [], _∷_}
 use native.Mathlib.Nat.{zero-add}
 use native.Mathlib.Omega.{arith}
-use borrow.Author.Tests.{lt-ltb, le-ltb, lt-leb, le-leb, eqb-true, ltb-true, leb-true, not-false}
+use borrow.Author.Tests.{le-leb, eqb-true, ltb-true, leb-true, not-false}
 use lib.Dec.{eqb, ltb, leb}
 use lib.ListN.{length, getD, set}
 use Rattle.reader.specs.Program.{Program}
 use Rattle.reader.specs.BuiltIns.{arithmetic}
-use Rattle.verifier.specs.Instruction.{Instr, Op, add, Division, Test, nop, aconstnull, pop, dup, dupx1, swap, ineg, iconst, iload, aload, istore, astore, goto, iinc, ibin, idiv, ifint, ificmp}
+use Rattle.verifier.specs.Instruction.{Instr, Op, add, Division, Test, nop, aconstnull, pop, dup, ineg, iconst, iload, aload, istore, astore, goto, iinc, ibin, idiv, ifint, ificmp}
 use Rattle.machine.specs.Integers.{compute, divided, holds, negated, wrap}
-use Rattle.machine.specs.Heap.{Val, empty, num, ref, null, isRef}
+use Rattle.machine.specs.Heap.{Val, empty, num, ref, isRef}
 use Rattle.machine.specs.Machine.{stuck, Result, stopped, Here, only, popAny, popInt, withInt, localAt, goOn, push, branch, setLocals, fault}
 use Rattle.machine.specs.Step.{execute}
 use Rattle.machine.specs.ValueLaws.{valueOf, ref-tag, value-ref}
-use Rattle.machine.specs.Windows.{valAt, locsOf, opsOf, Sized, Stands, Goes, going, pushing, storing, choosing, either, faulting, local-at}
-use Rattle.machine.specs.Turns.{By, alike, push-low, push-as, store-as, go-low, go-next, store-low, pick-so, pick-not, zero-so, zero-not, faulted, num-as, sized-low}
+use Rattle.machine.specs.Windows.{valAt, opsOf, Sized, Stands, Goes, going, pushing, storing, choosing, either, faulting, local-at}
+use Rattle.machine.specs.Turns.{By, alike, push-low, push-as, store-as, go-low, go-next, store-low, pick-so, pick-not, zero-so, zero-not, faulted, num-as}
 use Rattle.machine.specs.declared.window.Place.{Place}
 use Rattle.machine.specs.declared.window.Turn.{Turn}
 

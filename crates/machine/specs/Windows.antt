@@ -1,19 +1,19 @@
 -- The running call's window of 64 slots with their tags: locals from 0 on, operands from 32 on; and how it is read back.
-use Prim.Native.Nat.{ℕ, zero, suc, _+_, _-_, _<_, _≤_}
-use mathlib.Core.Path.{_≡_, refl, sym, ap, _∙_}
-use mathlib.Core.Bool.{Bool, true, false, cond}
+use Prim.Native.Nat.{ℕ, zero, suc, _+_, _<_, _≤_, _-_}
+use mathlib.Core.Path.{_≡_, refl, ap, _∙_}
+use mathlib.Core.Bool.{Bool, cond}
 use mathlib.Core.List.{List, [], _∷_}
 use mathlib.Core.Logic.{_⊎_, inl, inr}
 use native.Mathlib.Omega.{arith}
-use borrow.Author.Tests.{lt-ltb, le-ltb, lt-leb, le-leb}
-use lib.Dec.{eqb, ltb, leb}
-use lib.ListN.{length, getD, set, length-set}
+use borrow.Author.Tests.{lt-ltb, le-ltb}
+use lib.Dec.{eqb, ltb}
+use lib.ListN.{length, getD, set}
 use lib.Seq.{getD-set-same, getD-set-other}
 use Rattle.kit.specs.Pick.{side}
 use Rattle.verifier.specs.Opcodes.{body}
 use Rattle.reader.specs.Program.{Program}
-use Rattle.machine.specs.Heap.{Heap, heap, Val, empty, num}
-use Rattle.machine.specs.Machine.{heapFull, depthFull, stuck, End, Result, next, stopped, Here, methodAt, resumed, only, popAny, popInt, withInt, goOn, push, branch, setLocals, fault}
+use Rattle.machine.specs.Heap.{heap, Val, empty}
+use Rattle.machine.specs.Machine.{heapFull, depthFull, stuck, End, Result, next, stopped, Here, methodAt, resumed, goOn, push, branch, setLocals, fault}
 use Rattle.machine.specs.ValueLaws.{valueOf}
 use Rattle.machine.specs.declared.window.Place.{Place}
 use Rattle.machine.specs.declared.window.Turn.{Turn}

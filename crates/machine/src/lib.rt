@@ -2,6 +2,7 @@
 pub mod forms;
 pub mod heap;
 pub mod integers;
+pub mod memory;
 pub mod objects;
 pub mod values;
 pub mod window;

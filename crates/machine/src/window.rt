@@ -61,6 +61,17 @@ pub fn stuck(c: Place) -> Turn
     }
 }
 
+pub fn full(c: Place) -> Turn
+    ensures { λ r. ⌜ (r .end ≡ 4) × (r .operands ≡ 0) ⌝ }
+{
+    Turn {
+        end: Turn::HEAP_FULL,
+        at: 0,
+        operands: 0,
+        used: c.used,
+    }
+}
+
 // A fault of the built-in class k.
 pub fn fault(c: Place, k: u32) -> Turn
     ensures { λ r. ⌜ (r .end ≡ 7) × (r .at ≡ k) × (r .operands ≡ 0) ⌝ }
@@ -68,6 +79,18 @@ pub fn fault(c: Place, k: u32) -> Turn
     Turn {
         end: Turn::FAULT,
         at: k,
+        operands: 0,
+        used: c.used,
+    }
+}
+
+// Nothing that ends the step.
+pub fn fine(c: Place) -> Turn
+    ensures { λ r. ⌜ r .end ≡ 0 ⌝ }
+{
+    Turn {
+        end: Turn::ON,
+        at: 0,
         operands: 0,
         used: c.used,
     }

@@ -1,8 +1,5 @@
-use native.Mathlib.Omega.{arith}
-use Rattle.kit.specs.Scan.{tested}
 use Rattle.kit.specs.Pick.{picks, if-le, if-gt}
-use Rattle.machine.specs.Turns.{turns, sized-low}
-use Rattle.machine.specs.WindowForms.{onTop, twoInts, inLocal, steps, theres}
+use Rattle.machine.specs.WindowForms.{onTop, twoInts, inLocal}
 use borrow.Author.Needs.{needs}
 use Rattle.machine.proofs.forms.in_local.Statement.{statement}
 use Rattle.machine.proofs.forms.in_local.Tie as tie

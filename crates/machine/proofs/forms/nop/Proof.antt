@@ -1,8 +1,4 @@
-use native.Mathlib.Omega.{arith}
-use Rattle.kit.specs.Scan.{tested}
-use Rattle.kit.specs.Pick.{picks}
-use Rattle.machine.specs.Turns.{turns, sized-low}
-use Rattle.machine.specs.WindowForms.{onTop, twoInts, inLocal, steps, theres}
+use Rattle.machine.specs.WindowForms.{steps}
 use borrow.Author.Needs.{needs}
 use Rattle.machine.proofs.forms.nop.Statement.{statement}
 use Rattle.machine.proofs.forms.nop.Tie as tie

@@ -1,9 +1,5 @@
-use native.Mathlib.Omega.{arith}
-use Rattle.kit.specs.Scan.{tested}
-use Rattle.kit.specs.Pick.{picks}
-use Rattle.machine.specs.Turns.{turns, sized-low, decided, if-not, if-so}
-use Rattle.machine.specs.WindowForms.{astore-by}
-use Rattle.machine.specs.WindowForms.{onTop, twoInts, inLocal, steps, theres}
+use Rattle.machine.specs.Turns.{sized-low, decided, if-not, if-so}
+use Rattle.machine.specs.WindowForms.{astore-by, steps, theres}
 use borrow.Author.Needs.{needs}
 use Rattle.machine.proofs.forms.store_ref.Statement.{statement}
 use Rattle.machine.proofs.forms.store_ref.Tie as tie

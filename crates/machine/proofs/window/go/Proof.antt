@@ -1,4 +1,3 @@
-use native.Mathlib.Omega.{arith}
 use Rattle.machine.specs.Turns.{turns}
 use borrow.Author.Needs.{needs}
 use Rattle.machine.proofs.window.go.Statement.{statement}
@@ -7,15 +6,12 @@ use Rattle.machine.proofs.window.go.Reads as reads
 use Rattle.machine.proofs.window.go.Lts as lts
 use Rattle.machine.proofs.window.stuck.Reads as stuck-reads
 
--- src/window.rt:72:9
 stuck-requires : tie.Need-stuck-requires
 stuck-requires c κs = search needs
 
--- src/window.rt:72:9
 returns : tie.Need-returns
 returns c = search turns
 
--- src/window.rt:67:1
 returns-2 : tie.Need-returns-2
 returns-2 c = search turns
 
