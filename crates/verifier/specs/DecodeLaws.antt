@@ -76,7 +76,7 @@ module _ (v w : ℕ) where
   unfolding resolvedAs
   is-number e = rw e
 
-  is-type : w % 8 ≡ 2 → resolvedAs v w ≡ type (codeRef (w / 8 % 256))
+  pub is-type : w % 8 ≡ 2 → resolvedAs v w ≡ type (codeRef (w / 8 % 256))
   unfolding resolvedAs
   is-type e = rw e
 

@@ -46,6 +46,10 @@ pub mod ScanLaws
 pub mod Shaping
 pub mod ShapeLaws
 pub mod ShapeWhole
+pub mod FrameReading
+pub mod FrameReadLaws
+pub mod Besides
+pub mod FrameTypes
 pub mod Verify
 pub mod Computing
 pub mod Laws

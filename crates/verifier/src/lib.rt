@@ -5,6 +5,7 @@ pub mod codes;
 pub mod decode;
 pub mod dispatch;
 pub mod forms;
+pub mod frame_reader;
 pub mod frames;
 pub mod handlers;
 pub mod instruction;

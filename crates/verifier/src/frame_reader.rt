@@ -1,0 +1,140 @@
+// The frame table read: each frame's types as words.
+ghost use mathlib.Core.Path.{_≡_};
+ghost use Prim.Native.Nat.{_+_, _^_, _<_, _≤_};
+ghost use Rattle.reader.specs.Answers.{resAs};
+ghost use Rattle.verifier.specs.TypeWords.{typeOf};
+ghost use Rattle.verifier.specs.Marks.{Ready};
+ghost use Rattle.verifier.specs.FrameReading.{okType, wrongType, typeNamed, typeClassed, typeMade, typeTagged, typeAt};
+ghost use Rattle.verifier.specs.FrameTypes.{Types};
+use crate::codes;
+use crate::decode;
+use crate::marks;
+use crate::site::Site;
+use crate::types::Ty;
+use reader::items;
+use reader::items::Got;
+
+// A type's word and the position past it.
+fn ty(w: u32, e: usize) -> Got
+    ensures { λ r. ⌜ (resAs r (typeOf (r .val)) ≡ okType w e) × (r .val < 2 ^ 32) ⌝ }
+{
+    Got {
+        ok: true,
+        val: w as usize,
+        at: e,
+    }
+}
+
+// Frame k is wrong.
+fn wrong(k: usize) -> Got
+    ensures { λ r. ⌜ (resAs r (typeOf (r .val)) ≡ wrongType k) × (r .val < 2 ^ 32) ⌝ }
+{
+    Got {
+        ok: false,
+        val: 14,
+        at: k,
+    }
+}
+
+// The type that pool entry i names.
+fn named_type(s: &[u8], t: &[u8], x: Site, k: usize, i: usize, e: usize) -> Got
+    requires { ⌜ Ready (now s) (now t) x ⌝ }
+    ensures { λ r. ⌜ (resAs r (typeOf (r .val)) ≡ typeNamed (now (s .entry)) (now (t .entry)) x k i e) × (r .val < 2 ^ 32) ⌝ }
+{
+    let w = decode::named_word(t, x.class, i);
+    if w % 8 == 2 {
+        let u = codes::reference((w / 8 % 256) as u8);
+        return ty(u.word, e);
+    }
+    wrong(k)
+}
+
+// After the tags 7 and 8.
+fn class_type(s: &[u8], t: &[u8], x: Site, f: &[u8], k: usize, q: usize) -> Got
+    requires { ⌜ Ready (now s) (now t) x ⌝ }
+    ensures { λ r. ⌜ (resAs r (typeOf (r .val)) ≡ typeClassed (now (s .entry)) (now (t .entry)) x (now (f .entry)) k q) × (r .val < 2 ^ 32) ⌝ }
+{
+    let i = items::num2(f, f.len(), 14, k, q);
+    if i.ok {
+        return named_type(s, t, x, k, i.val, i.at);
+    }
+    wrong(k)
+}
+
+fn new_type(s: &[u8], t: &[u8], x: Site, f: &[u8], k: usize, q: usize) -> Got
+    requires { ⌜ Ready (now s) (now t) x ⌝ }
+    ensures { λ r. ⌜ (resAs r (typeOf (r .val)) ≡ typeMade (now (s .entry)) (now (t .entry)) x (now (f .entry)) k q) × (r .val < 2 ^ 32) ⌝ }
+{
+    let i = items::num2(f, f.len(), 14, k, q);
+    if !i.ok {
+        return wrong(k);
+    }
+    if marks::is_new_at(s, t, x, i.val) {
+        let u = Ty::uninit((i.val % 65536) as u16);
+        return ty(u.word, i.at);
+    }
+    wrong(k)
+}
+
+// A type by its tag; what belongs to it stands from e on.
+fn tagged_type(s: &[u8], t: &[u8], x: Site, f: &[u8], k: usize, tag: usize, e: usize) -> Got
+    requires { ⌜ Ready (now s) (now t) x ⌝ }
+    ensures { λ r. ⌜ (resAs r (typeOf (r .val)) ≡ typeTagged (now (s .entry)) (now (t .entry)) x (now (f .entry)) k tag e) × (r .val < 2 ^ 32) ⌝ }
+{
+    if tag == 0 {
+        return ty(Ty::TOP, e);
+    }
+    if tag == 1 {
+        return ty(Ty::INT, e);
+    }
+    if tag == 5 {
+        return ty(Ty::NULL, e);
+    }
+    if tag == 6 {
+        if x.constructor {
+            return ty(Ty::UNINIT_THIS, e);
+        }
+        return wrong(k);
+    }
+    if tag == 7 {
+        return class_type(s, t, x, f, k, e);
+    }
+    if tag == 8 {
+        return new_type(s, t, x, f, k, e);
+    }
+    wrong(k)
+}
+
+// The type at q of the table f.
+fn type_at(s: &[u8], t: &[u8], x: Site, f: &[u8], k: usize, q: usize) -> Got
+    requires { ⌜ Ready (now s) (now t) x ⌝ }
+    ensures { λ r. ⌜ (resAs r (typeOf (r .val)) ≡ typeAt (now (s .entry)) (now (t .entry)) x (now (f .entry)) k q) × (r .val < 2 ^ 32) ⌝ }
+{
+    if q < f.len() {
+        return tagged_type(s, t, x, f, k, kit::byte(f, q), q + 1);
+    }
+    wrong(k)
+}
+
+// n types from q on, into the words from w on.
+fn types(s: &[u8], t: &mut [u8], x: Site, f: &[u8], k: usize, n: usize, w: usize, q: usize) -> Got
+    requires { ⌜ Ready (now s) (now t) x × (65184 ≤ w) × (w + n ≤ 65536) ⌝ }
+    ensures { λ r. ⌜ Types (now (s .entry)) (now (t .entry)) x (now (f .entry)) k n w q r (now (t .exit)) ⌝ }
+{
+    let mut at = q;
+    let mut i = 0;
+    while i < n {
+        let r = type_at(s, t, x, f, k, at);
+        if !r.ok {
+            return r;
+        }
+        kit::put_word(t, w + i, r.val as u32);
+        at = r.at;
+        i += 1;
+    }
+    Got {
+        ok: true,
+        val: 0,
+        at: at,
+    }
+}
