@@ -120,20 +120,6 @@ module _ (t : List ℕ) (k n c : ℕ) where
 
 pub ruleset catches = (catch-any, catch-class, catch-none, same)
 
--- the accessor of the resolved table
-module _ (t : List ℕ) (k i : ℕ) where
-  pub word-named : (r : ℕ) → k < 16 → i < 1024 → r ≡ word t (resolvedWord k i) → r ≡ wordOf t k i
-  unfolding wordOf
-  word-named r h l e = e ∙ sym (rw (lt-ltb k 16 h, lt-ltb i 1024 l))
-
-  pub word-past : k < 16 → 1024 ≤ i → 0 ≡ wordOf t k i
-  unfolding wordOf
-  word-past h l = sym (rw (lt-ltb k 16 h, le-ltb i 1024 l))
-
-  pub word-none : 16 ≤ k → 0 ≡ wordOf t k i
-  unfolding wordOf
-  word-none h = sym (rw (le-ltb k 16 h))
-
 -- what the word says is what the table's entry resolves to
 base-part : (q : ℕ) → q / 8 % 32 ≡ q % 256 / 8
 base-part q =

@@ -38,6 +38,8 @@ pub mod Callees
 pub mod Preparing
 pub mod Lineup
 pub mod Walks
+pub mod Starts
+pub mod MethodWalks
 pub mod Marks
 pub mod LineLaws
 pub mod MarkLaws

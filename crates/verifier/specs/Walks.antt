@@ -24,6 +24,7 @@ use Rattle.verifier.specs.FrameRows.{framesOf}
 use Rattle.verifier.specs.Sites.{siteCode, Sited}
 use Rattle.verifier.specs.SiteLaws.{code-is}
 use Rattle.verifier.specs.Loads.{current}
+use Rattle.verifier.specs.Marks.{ruledAs}
 use Rattle.verifier.specs.Callees.{Typed}
 use Rattle.verifier.specs.Lineup.{lineClaims, lineAfter, front-word, front-sited, front-typed, Walking, LineDone}
 use Rattle.verifier.specs.StepClaims.{frames-outside, Going}
@@ -32,20 +33,16 @@ use Rattle.verifier.specs.declared.slots.Held.{Held}
 use Rattle.verifier.specs.declared.frames.Rows.{Rows}
 use Rattle.verifier.specs.declared.types.Kin.{Kin}
 use Rattle.verifier.specs.declared.walk.Turn.{Turn}
-use Rattle.verifier.specs.declared.walk.Answer.{Answer}
-
--- what the code's answer says
-abbrev pub answerOf : Answer → Ruling Fault
-answerOf r = cond (eqb (r .refusal) 0) pass (fail (fault (r .refusal) (r .place)))
+use Rattle.verifier.specs.declared.site.Ruled.{Ruled}
 
 -- the answer at the code's end
-pub record Ended (live : Bool) (n : ℕ) (r : Answer) : Type 0 where
-  pub is : (S : State) → answerOf r ≡ verdict (ending n (current live S))
+pub record Ended (live : Bool) (n : ℕ) (r : Ruled) : Type 0 where
+  pub is : (S : State) → ruledAs r ≡ verdict (ending n (current live S))
 
-pub ended-live : (live : Bool) (n : ℕ) → live ≡ true → Ended live n (record { refusal = 17; place = n })
+pub ended-live : (live : Bool) (n : ℕ) → live ≡ true → Ended live n (record { number = 17; place = n })
 ended-live live n e = record { is = λ S. rw e (sym (verdict-no (fault 17 n) false [] refl)) }
 
-pub ended-none : (live : Bool) (n p : ℕ) → live ≡ false → Ended live n (record { refusal = 0; place = p })
+pub ended-none : (live : Bool) (n p : ℕ) → live ≡ false → Ended live n (record { number = 0; place = p })
 ended-none live n p e = record { is = λ S. rw e (sym verdict-none) }
 
 -- ---- turns: R is what the whole walk gives
@@ -75,7 +72,7 @@ module _ (P : Program) (M : Method) (t : List ℕ) (f : Rows) (left o : ℕ) (c 
           ∙ (rw (lt-ltb o (length (codeOf M)) l) at turn)
 
       module _ (a : ℕ) (e : is a ≡ verdict (lineClaims P M t f o c)) where
-        pub walk-stop : (r : Answer) → (a ≡ 0 → ⊥) → r ≡ record { refusal = a; place = o } → answerOf r ≡ R
+        pub walk-stop : (r : Ruled) → (a ≡ 0 → ⊥) → r ≡ record { number = a; place = o } → ruledAs r ≡ R
         unfolding relabel
         walk-stop r z q =
             rw (q, ne-eqb a 0 z)
@@ -103,8 +100,8 @@ unfolding walkClaims lines
 walk-start P M t f S n e l = rw (e, l)
 
 -- the whole walk from a state that is the method's start
-pub record Walked (s t u : List ℕ) (x : Site) (f : Rows) (h : Held) (r : Answer) : Type 0 where
-  pub is : (P : Program) (M : Method) → Sited s t P M x → Typed t P (x .classes) → x .codes ≡ 1 → held t h ≡ startState M → answerOf r ≡ verdict (walkClaims P M (framesOf t f))
+pub record Walked (s t u : List ℕ) (x : Site) (f : Rows) (h : Held) (r : Ruled) : Type 0 where
+  pub is : (P : Program) (M : Method) → Sited s t P M x → Typed t P (x .classes) → x .codes ≡ 1 → held t h ≡ startState M → ruledAs r ≡ verdict (walkClaims P M (framesOf t f))
   pub front : take 260736 u ≡ take 260736 t
 
 -- the loop's state: the rest from here is the whole
@@ -125,7 +122,7 @@ module _ (s t u : List ℕ) (x : Site) (f : Rows) (h : Held) (left o : ℕ) (liv
   code-long : (P : Program) (M : Method) → Sited s t P M x → x .codes ≡ 1 → n ≡ length (codeOf M)
   code-long P M d one = len ∙ ap length (sym (code-is s t P M x d one))
 
-  pub mid-out : (r : Answer) → Ended live n r → left ≤ 0 → Walked s t u x f h r
+  pub mid-out : (r : Ruled) → Ended live n r → left ≤ 0 → Walked s t u x f h r
   mid-out r e l = record {
     is = λ P M d y one st.
         e .is (held u g) ∙ ap (λ (k : ℕ). verdict (ending k (current live (held u g)))) (code-long P M d one)
@@ -133,7 +130,7 @@ module _ (s t u : List ℕ) (x : Site) (f : Rows) (h : Held) (left o : ℕ) (liv
     front = m .front;
   }
 
-  pub mid-past : (r : Answer) → Ended live n r → 0 < left → n ≤ o → Walked s t u x f h r
+  pub mid-past : (r : Ruled) → Ended live n r → 0 < left → n ≤ o → Walked s t u x f h r
   mid-past r e l p = record {
     is = λ P M d y one st.
         let k = code-long P M d one in
@@ -165,7 +162,7 @@ module _ (s t u : List ℕ) (x : Site) (f : Rows) (h : Held) (left o : ℕ) (liv
       size-at : (k : ℕ) → k ≡ sizeAt (siteCode s x) o → k ≡ sizeAt (codeOf M) o
       size-at k e = e ∙ ap (λ (c : List ℕ). sizeAt c o) (sym (code-is s t P M x dt one))
 
-    pub mid-stop : (a : Answer) → (r .refusal ≡ 0 → ⊥) → a ≡ record { refusal = r .refusal; place = o } → Walked s t v x f h a
+    pub mid-stop : (a : Ruled) → (r .refusal ≡ 0 → ⊥) → a ≡ record { number = r .refusal; place = o } → Walked s t v x f h a
     mid-stop a z e = record {
       is = λ P M dt yt one st.
           walk-stop P M t f left o (current live (held u g)) _ (m .is P M dt yt one st) l (inside P M dt yt one) (r .refusal) (says-at P M dt yt one) a z e;
@@ -173,7 +170,7 @@ module _ (s t u : List ℕ) (x : Site) (f : Rows) (h : Held) (left o : ℕ) (liv
     }
 
     module _ (z : r .refusal ≡ 0) (k : ℕ) (e : k ≡ sizeAt (siteCode s x) o) where
-      pub mid-end : (a : Answer) → k ≡ 0 → Ended (r .live) n a → Walked s t v x f h a
+      pub mid-end : (a : Ruled) → k ≡ 0 → Ended (r .live) n a → Walked s t v x f h a
       mid-end a q y = record {
         is = λ P M dt yt one st.
             y .is (held v (r .held)) ∙ ap (λ (j : ℕ). verdict (ending j (current (r .live) (held v (r .held))))) (code-long P M dt one)

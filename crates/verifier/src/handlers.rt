@@ -9,11 +9,11 @@ ghost use Rattle.verifier.specs.Types.{ini};
 ghost use Rattle.verifier.specs.Rule.{keyOf};
 ghost use Rattle.verifier.specs.Walk.{covers};
 ghost use Rattle.verifier.specs.TypeWords.{typeOf};
-ghost use Rattle.verifier.specs.ResolvedWords.{wordOf};
 ghost use Rattle.verifier.specs.Ancestry.{lineage};
 ghost use Rattle.verifier.specs.Slots.{localsOf, veil, Placed};
 ghost use Rattle.verifier.specs.FrameRows.{framesOf, Laid};
 ghost use Rattle.verifier.specs.Handlers.{entryAt, catchIn, handlerBy, handlersBy};
+use crate::decode::named_word;
 use crate::frames::Rows;
 use crate::frames::into_handler;
 use crate::site::Site;
@@ -24,19 +24,6 @@ use crate::types::Kin;
 use crate::types::Ty;
 use reader::items::u2_at;
 
-// What pool entry i of bundle class c names, in a word; 0 where there is none.
-fn named(t: &[u8], c: usize, i: usize) -> u32
-    ensures { λ r. ⌜ r ≡ wordOf (now (t .entry)) c i ⌝ }
-{
-    if 16 <= c {
-        return 0;
-    }
-    if 1024 <= i {
-        return 0;
-    }
-    kit::word(t, 25760 + 1024 * c + i)
-}
-
 // The class that catch_type i stands for: Throwable for 0, and past all classes where it names none.
 fn catch_type(t: &[u8], x: Site, i: usize) -> Ty
     requires { ⌜ x .classes ≤ 16 ⌝ }
@@ -45,7 +32,7 @@ fn catch_type(t: &[u8], x: Site, i: usize) -> Ty
     if i == 0 {
         return Ty::class(1);
     }
-    let w = named(t, x.class, i);
+    let w = named_word(t, x.class, i);
     if w % 64 == 2 {
         return Ty {
             word: Ty::CLASS + 64 * (w / 64 % 32),

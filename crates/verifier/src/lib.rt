@@ -14,6 +14,7 @@ pub mod opcodes;
 pub mod shape;
 pub mod site;
 pub mod slots;
+pub mod start;
 pub mod steps;
 pub mod types;
 pub mod walk;

@@ -15,6 +15,7 @@ ghost use Rattle.verifier.specs.StepClaims.{stepBy, Going};
 ghost use Rattle.verifier.specs.Loads.{current};
 ghost use Rattle.verifier.specs.Lineup.{Walking, LineDone};
 ghost use Rattle.verifier.specs.Walks.{Ended, Walked};
+ghost use Rattle.verifier.specs.MethodWalks.{Placeable, MethodWalked};
 use crate::callees::known;
 use crate::calls::Known;
 use crate::decode;
@@ -29,10 +30,12 @@ use crate::frames::load;
 use crate::handlers::all_handlers;
 use crate::instruction::Instr;
 use crate::opcodes::size_at;
+use crate::site::Ruled;
 use crate::site::Site;
 use crate::slots::Held;
 use crate::slots::fit_states;
 use crate::slots::peek;
+use crate::start::start;
 use crate::types::Kin;
 
 // A refusal, 0 for none, and where none the state that goes on.
@@ -159,30 +162,24 @@ fn one_line(s: &[u8], t: &mut [u8], x: Site, kin: Kin, f: Rows, live: bool, h: H
     }
 }
 
-// The first refusal of a walk with its place; 0 for none.
-pub struct Answer {
-    pub refusal: u32,
-    pub place: usize,
-}
-
 // A state at the code's end is 17 there.
-fn ended(live: bool, end: usize) -> Answer
+fn ended(live: bool, end: usize) -> Ruled
     ensures { λ r. ⌜ Ended live end r ⌝ }
 {
     if live {
-        return Answer {
-            refusal: 17,
+        return Ruled {
+            number: 17,
             place: end,
         };
     }
-    Answer {
-        refusal: 0,
+    Ruled {
+        number: 0,
         place: 0,
     }
 }
 
 // The walk over the code at x from the state h: lines in order, by offset.
-pub fn over_lines(s: &[u8], t: &mut [u8], x: Site, kin: Kin, f: Rows, h: Held) -> Answer
+fn over_lines(s: &[u8], t: &mut [u8], x: Site, kin: Kin, f: Rows, h: Held) -> Ruled
     requires { ⌜ Walking (now s) (now t) x kin f h ⌝ }
     ensures { λ r. ⌜ Walked (now (s .entry)) (now (t .entry)) (now (t .exit)) x f h r ⌝ }
 {
@@ -208,8 +205,8 @@ pub fn over_lines(s: &[u8], t: &mut [u8], x: Site, kin: Kin, f: Rows, h: Held) -
         let r = one_line(s, t, x, kin, f, live, g, o as u16);
         let q = r.held;
         if r.refusal != 0 {
-            return Answer {
-                refusal: r.refusal,
+            return Ruled {
+                number: r.refusal,
                 place: o,
             };
         }
@@ -224,4 +221,17 @@ pub fn over_lines(s: &[u8], t: &mut [u8], x: Site, kin: Kin, f: Rows, h: Held) -
         left -= 1;
     }
     ended(live, end)
+}
+
+// The walk of the method at x from its start, with its frames at f.
+pub fn walk_method(s: &[u8], t: &mut [u8], x: Site, f: Rows) -> Ruled
+    requires { ⌜ Placeable (now s) (now t) x f ⌝ }
+    ensures { λ r. ⌜ MethodWalked (now (s .entry)) (now (t .entry)) (now (t .exit)) x f r ⌝ }
+{
+    let h = start(t, x);
+    let kin = Kin {
+        at: 25728,
+        count: 11 + x.classes,
+    };
+    over_lines(s, t, x, kin, f, h)
 }

@@ -5,7 +5,6 @@ use Rattle.verifier.proofs.handlers.catch_type.Statement.{statement}
 use Rattle.verifier.proofs.handlers.catch_type.Tie as tie
 use Rattle.verifier.proofs.handlers.catch_type.Reads as reads
 use Rattle.verifier.proofs.handlers.catch_type.Lts as lts
-use Rattle.verifier.proofs.handlers.named.Reads as named-reads
 use Rattle.verifier.proofs.types.Ty.class.Reads as class-reads
 
 -- src/handlers.rt:47:9
@@ -17,8 +16,8 @@ returns : tie.Need-returns
 returns c = catch-any _ _ _ _ _ (c .class .ensures) (c .before .if1 .taken)
 
 -- src/handlers.rt:49:9
-named-requires : tie.Need-named-requires
-named-requires c κs = search needs
+named-word-requires : tie.Need-named-word-requires
+named-word-requires c κs = search needs
 
 -- src/handlers.rt:52:31
 mul-t9 : tie.Need-mul-t9
@@ -30,7 +29,7 @@ add-t10 c = search needs
 
 -- src/handlers.rt:51:9
 returns-2 : tie.Need-returns-2
-returns-2 c = catch-class _ _ _ _ (c .before .before .if1 .left) _ _ (c .before .named .ensures) (c .if2 .taken) refl
+returns-2 c = catch-class _ _ _ _ (c .before .before .if1 .left) _ _ (c .before .named-word .ensures) (c .if2 .taken) refl
 
 -- src/handlers.rt:56:34
 add-t11 : tie.Need-add-t11
@@ -50,7 +49,7 @@ add-t13 c = search needs
 
 -- src/handlers.rt:42:1
 returns-3 : tie.Need-returns-3
-returns-3 c = catch-none _ _ _ _ (c .before .before .before .if1 .left) _ _ (c .before .before .named .ensures) (c .before .if2 .left) refl
+returns-3 c = catch-none _ _ _ _ (c .before .before .before .if1 .left) _ _ (c .before .before .named-word .ensures) (c .before .if2 .left) refl
 
 pub catch-type-spec : {M : Type 1} → statement M
 catch-type-spec =
@@ -58,7 +57,7 @@ catch-type-spec =
     (tie.spec
     class-requires
     returns
-    named-requires
+    named-word-requires
     mul-t9
     add-t10
     returns-2
