@@ -31,6 +31,9 @@ pub mod Known
 pub mod KnownLaws
 pub mod Sites
 pub mod SiteLaws
+pub mod Resolving
+pub mod Located
+pub mod Kept
 pub mod Handlers
 pub mod StepClaims
 pub mod Loads
