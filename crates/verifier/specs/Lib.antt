@@ -43,6 +43,7 @@ pub mod Lineup
 pub mod Walks
 pub mod Starts
 pub mod MethodWalks
+pub mod TypedTables
 pub mod Marks
 pub mod LineLaws
 pub mod MarkLaws
