@@ -12,7 +12,7 @@ use Rattle.kit.specs.Bools.{not-so}
 use Rattle.reader.specs.Reading.{Res, ok, bad}
 use Rattle.reader.specs.Bundle.{ClassFile, classFilesAt, bundleAt}
 use Rattle.reader.specs.BuiltIns.{firstClass}
-use Rattle.reader.specs.Program.{Method, class, method, methodOf, programOf}
+use Rattle.reader.specs.Program.{class, method, methodOf, programOf}
 use Rattle.reader.specs.Link.{linked}
 use Rattle.reader.specs.Linked.{filesIn, files-front}
 use Rattle.reader.specs.MemberRows.{blockAt, rowCount, rowAt}
@@ -20,13 +20,14 @@ use Rattle.reader.specs.MemberAt.{numberAs, method-at}
 use Rattle.reader.specs.TypeCodes.{typesOf, codesIn, resultAt, paramsIn, resultsIn}
 use Rattle.reader.specs.CodeLaws.{codes-same, params-length}
 use Rattle.reader.specs.FileLimits.{BodyFits, method-fit}
-use Rattle.reader.specs.Whole.{MethodTypes, Tables}
+use Rattle.reader.specs.Whole.{Tables}
 use Rattle.verifier.specs.Resolve.{resolve}
 use Rattle.verifier.specs.ResolvedWords.{wordOf, resolvedOf, Flagged}
 use Rattle.verifier.specs.Resolving.{ResolvedAll, files-same, block-same, parents-same, limited-same}
-use Rattle.verifier.specs.Sites.{front}
+use Rattle.verifier.specs.Sites.{front, Here}
 use Rattle.verifier.specs.SiteLaws.{word-front}
-use Rattle.verifier.specs.Located.{Prepared}
+use Rattle.verifier.specs.Located.{Prepared, Located}
+use Rattle.verifier.specs.declared.site.Site.{Site}
 
 abbrev isOk : {A : Type 0} → Res A → Bool
 isOk (ok a e) = true
@@ -125,3 +126,7 @@ module _ (s : List ℕ) (n : ℕ) (t u : List ℕ) (h : Prepared s n t) (e : fro
 
 pub prepared-front : (s : List ℕ) (n : ℕ) (t : List ℕ) → Prepared s n t → Prepared s n (front t)
 prepared-front s n t h = prepared-kept s n t (front t) h (take-take 187008 187008 t (omega arith))
+
+-- a site that was located in the front alone
+pub here-by : (s t : List ℕ) (n c m : ℕ) (x : Site) → Located s n c m x (front t) → Here s t x
+here-by s t n c m x h = record { sited = h .sited; bounded = h .bounded }

@@ -1,22 +1,21 @@
 -- A method's parts as the code finds them, and that they are the program's; what has to stand in the scratch for that. Assumes nothing.
-use Prim.Native.Nat.{ℕ, zero, suc, _+_, _-_, _*_, _/_, _%_, _^_, _<_, _≤_}
+use Prim.Native.Nat.{ℕ, _+_, _-_, _*_, _^_, _<_, _≤_}
 use mathlib.Core.Path.{_≡_, refl, sym, ap, subst, _∙_}
-use mathlib.Core.List.{List, [], _∷_}
-use mathlib.Core.Bool.{Bool, true, false, cond, not}
-use mathlib.Core.Logic.{_⊎_, inl, inr}
+use mathlib.Core.List.{List, []}
+use mathlib.Core.Bool.{Bool, true, false, not}
 use native.Mathlib.Omega.{arith}
-use lib.Dec.{ltb, eqb}
-use lib.ListN.{length, getD, take, drop, length-take, length-drop, drop-of-length-le}
-use lib.Seq.{take-take, take-all, take-nil, getD-take}
+use lib.Dec.{eqb}
+use lib.ListN.{length, take, drop, length-drop, drop-of-length-le}
+use lib.Seq.{take-all, take-nil}
 use borrow.Author.Tests.{eqb-true, eq-eqb, ne-eqb, not-false}
 use Rattle.kit.specs.Bools.{not-so}
-use Rattle.kit.specs.Lists.{length-part, drop-take}
-use Rattle.kit.specs.Words.{word, word-take}
+use Rattle.kit.specs.Lists.{length-part}
+use Rattle.kit.specs.Words.{word}
 use Rattle.reader.specs.Limits.{maxStackLimit, maxLocalsLimit, maxCode, maxTableEntries}
 use Rattle.reader.specs.Reading.{u2At, u4At, part}
-use Rattle.reader.specs.Names.{Text, isInit}
+use Rattle.reader.specs.Names.{isInit}
 use Rattle.reader.specs.Table.{IsText, span}
-use Rattle.reader.specs.Members.{Found, none, once, twice, Handler, Body, Member}
+use Rattle.reader.specs.Members.{Found, Body}
 use Rattle.reader.specs.Attributes.{foundOf, handlersFrom, tableFrom, bodyOf, memberOf}
 use Rattle.reader.specs.BuiltIns.{firstClass}
 use Rattle.reader.specs.Program.{Program, Method, class, method, methodOf, programOf, isConstructor}
@@ -29,9 +28,8 @@ use Rattle.reader.specs.FileLimits.{BodyFits, CodeLimits, row-limits}
 use Rattle.reader.specs.Whole.{Tables}
 use Rattle.reader.specs.declared.pool.Span.{Span}
 use Rattle.verifier.specs.Resolve.{resolve}
-use Rattle.verifier.specs.Ancestry as ancestry
 use Rattle.verifier.specs.Resolving.{ResolvedAll}
-use Rattle.verifier.specs.Sites.{siteCode, siteBody, Sited, Bounded, programAt, methodAt}
+use Rattle.verifier.specs.Sites.{siteBody, Sited, Bounded, programAt, methodAt}
 use Rattle.verifier.specs.declared.site.Site.{Site}
 use Rattle.verifier.specs.declared.locate.Parts.{Parts}
 

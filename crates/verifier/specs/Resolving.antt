@@ -12,20 +12,20 @@ use borrow.Author.Tests.{eqb-true, eq-eqb, ne-eqb, lt-ltb, le-ltb, not-true, not
 use Rattle.kit.specs.Lists.{eqList, eqList-true, drop-take, length-part}
 use Rattle.kit.specs.Pick.{side}
 use Rattle.kit.specs.Words.{word, putWord, length-put, byte-other, word-take, word-same, word-other}
-use Rattle.reader.specs.Reading.{Res, ok, bad, u4At}
+use Rattle.reader.specs.Reading.{ok, u4At}
 use Rattle.reader.specs.Names.{Text, isInit}
 use Rattle.reader.specs.Answers.{resAs, no-ok, no-bad}
-use Rattle.reader.specs.Descriptors.{Ref, cls, arr, Desc, dint, dref, classTypeAt, knownRef, knownDesc}
-use Rattle.reader.specs.Pool.{Constant, absent, utf8, integer, classAt, fieldref, methodref, nameAndType, entry, text}
+use Rattle.reader.specs.Descriptors.{cls, arr, Desc, dint, dref, classTypeAt, knownRef, knownDesc}
+use Rattle.reader.specs.Pool.{Constant, classAt, entry, text}
 use Rattle.reader.specs.Table.{poolIn, constantOf, IsText, entry-past}
 use Rattle.reader.specs.Bundle.{ClassFile}
 use Rattle.reader.specs.BuiltIns.{firstClass}
-use Rattle.reader.specs.Program.{Program, Class, Method, noField, noMethod, Signature, signature, class, method, classCount, numberIn, classNames, programOf, isConstructor, fieldSigs, methodSigs, sameSignature, Spot, nowhere, spot, lookup, layout}
+use Rattle.reader.specs.Program.{Program, Class, Method, noField, noMethod, Signature, signature, class, method, classCount, numberIn, programOf, isConstructor, fieldSigs, methodSigs, sameSignature, nowhere, spot, lookup, layout}
 use Rattle.reader.specs.Blocks.{poolWord, poolOf, classesIn}
 use Rattle.reader.specs.BlockWords.{take-put}
 use Rattle.reader.specs.Linked.{parentsAt, filesIn, Parents}
 use Rattle.reader.specs.MemberRows.{blockAt, rowCount}
-use Rattle.reader.specs.Lookup.{sigsOf, hitOf, ownSpot, class-past, class-count, built-in-class}
+use Rattle.reader.specs.Lookup.{hitOf, ownSpot, class-past, class-count, built-in-class}
 use Rattle.reader.specs.MemberAt.{fields-count, methods-count}
 use Rattle.reader.specs.TypeCodes as codes
 use Rattle.reader.specs.Access.{Limited, There, lookup-there, own-there, program-names, pool-at, integer-at}
@@ -35,7 +35,7 @@ use Rattle.reader.specs.declared.pool.Span.{Span}
 use Rattle.reader.specs.declared.pool.Entry.{Entry}
 use Rattle.reader.specs.declared.pool.Entry.the-variants.{Integer}
 use Rattle.verifier.specs.Instruction.{FieldRef, MethodRef}
-use Rattle.verifier.specs.Resolve.{Resolved, nothing, number, type, field, methodOf, numberOf, knownType, classEntry, withClass, withSignature, fieldFound, methodFound, ownMethod, fieldIn, methodIn, resolveEntry, resolve, found}
+use Rattle.verifier.specs.Resolve.{Resolved, nothing, number, type, field, methodOf, knownType, classEntry, withClass, withSignature, fieldFound, methodFound, ownMethod, fieldIn, methodIn, resolveEntry, resolve, found}
 use Rattle.verifier.specs.TypeWords as tywords
 use Rattle.verifier.specs.TypeCodes.{codeBase, codeRef}
 use Rattle.verifier.specs.ResolvedWords as words
