@@ -44,6 +44,7 @@ pub mod Walks
 pub mod Starts
 pub mod MethodWalks
 pub mod TypedTables
+pub mod WalkHere
 pub mod Marks
 pub mod LineLaws
 pub mod MarkLaws
