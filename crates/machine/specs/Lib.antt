@@ -14,3 +14,4 @@ pub mod Turns
 pub mod WindowForms
 pub mod HeapTurns
 pub mod HeapForms
+pub mod GroupLaws

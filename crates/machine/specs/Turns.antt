@@ -7,12 +7,12 @@ use native.Mathlib.Nat.{zero-add}
 use native.Mathlib.Omega.{arith}
 use borrow.Author.Tests.{lt-leb, le-leb, eq-eqb, ne-eqb, not-true, not-false}
 use lib.Dec.{eqb}
-use lib.ListN.{length, set}
+use lib.ListN.{length, set, length-set}
 use Rattle.reader.specs.Program.{Program}
 use Rattle.machine.specs.Heap.{heap, Val, num}
 use Rattle.machine.specs.Machine.{stuck, Result, stopped, Here, only, goOn}
 use Rattle.machine.specs.ValueLaws.{valueOf}
-use Rattle.machine.specs.Windows.{locsOf, turnOf, Sized, Stands, Goes, going, pushing, storing, choosing, either, faulting, ops-put, locs-put, local-put, ops-local, length-ops, length-locs, set-past}
+use Rattle.machine.specs.Windows.{opsOf, locsOf, turnOf, Sized, Stands, Goes, going, pushing, storing, choosing, either, faulting, ops-put, locs-put, local-put, ops-local, length-ops, length-locs, set-past}
 use Rattle.machine.specs.declared.window.Place.{Place}
 use Rattle.machine.specs.declared.window.Turn.{Turn}
 
@@ -91,6 +91,14 @@ module _ (c : Place) (w g : List ℕ) (j k v : ℕ) where
     kept = λ q. (refl, refl);
     room = z .operands;
   }
+
+-- a value in place of the operand under the n-th, which leaves what stands below
+module _ (w g : List ℕ) (n a k b l : ℕ) where
+  pub ops-two : 33 + n < length w → 33 + n < length g → opsOf (set (set w (32 + n) a) (33 + n) b) (set (set g (32 + n) k) (33 + n) l) (suc (suc n)) ≡ valueOf l b ∷ valueOf k a ∷ opsOf w g n
+  ops-two h m =
+      let e : 33 + n ≡ 32 + suc n = omega arith in
+      rw e (ops-put (set w (32 + n) a) (set g (32 + n) k) (suc n) b l (rw (length-set w (32 + n) a) (omega arith)) (rw (length-set g (32 + n) k) (omega arith))
+      ∙ ap (λ (z : List Val). valueOf l b ∷ z) (ops-put w g n a k (omega arith) (omega arith)))
 
 pub ruleset turns = (go-stuck, go-on, push-stuck, push-on, store-stuck, store-on, store-past)
 

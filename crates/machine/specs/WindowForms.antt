@@ -5,19 +5,19 @@ use mathlib.Core.Bool.{Bool, true, false, cond, not}
 use mathlib.Core.List.{List, [], _∷_}
 use native.Mathlib.Nat.{zero-add}
 use native.Mathlib.Omega.{arith}
-use borrow.Author.Tests.{le-leb, eqb-true, ltb-true, leb-true, not-false}
+use borrow.Author.Tests.{lt-leb, le-leb, eqb-true, ltb-true, leb-true, not-false}
 use lib.Dec.{eqb, ltb, leb}
-use lib.ListN.{length, getD, set}
+use lib.ListN.{length, getD, set, length-set}
 use Rattle.reader.specs.Program.{Program}
 use Rattle.reader.specs.BuiltIns.{arithmetic}
-use Rattle.verifier.specs.Instruction.{Instr, Op, add, Division, Test, nop, aconstnull, pop, dup, ineg, iconst, iload, aload, istore, astore, goto, iinc, ibin, idiv, ifint, ificmp}
+use Rattle.verifier.specs.Instruction.{Instr, swap, dupx1, Op, add, Division, Test, nop, aconstnull, pop, dup, ineg, iconst, iload, aload, istore, astore, goto, iinc, ibin, idiv, ifint, ificmp}
 use Rattle.machine.specs.Integers.{compute, divided, holds, negated, wrap}
 use Rattle.machine.specs.Heap.{Val, empty, num, ref, isRef}
 use Rattle.machine.specs.Machine.{stuck, Result, stopped, Here, only, popAny, popInt, withInt, localAt, goOn, push, branch, setLocals, fault}
 use Rattle.machine.specs.Step.{execute}
 use Rattle.machine.specs.ValueLaws.{valueOf, ref-tag, value-ref}
-use Rattle.machine.specs.Windows.{valAt, opsOf, Sized, Stands, Goes, going, pushing, storing, choosing, either, faulting, local-at}
-use Rattle.machine.specs.Turns.{By, alike, push-low, push-as, store-as, go-low, go-next, store-low, pick-so, pick-not, zero-so, zero-not, faulted, num-as}
+use Rattle.machine.specs.Windows.{valAt, locsOf, opsOf, length-ops, Sized, Stands, Goes, ops-put, locs-put, going, pushing, storing, choosing, either, faulting, local-at}
+use Rattle.machine.specs.Turns.{By, alike, halted, ops-two, push-low, push-as, store-as, go-low, go-next, store-low, pick-so, pick-not, zero-so, zero-not, faulted, num-as}
 use Rattle.machine.specs.declared.window.Place.{Place}
 use Rattle.machine.specs.declared.window.Turn.{Turn}
 
@@ -199,6 +199,117 @@ module _ (c : Place) (w g : List ℕ) where
     pub astore-by : By c w g (doing w g (c .operands) (astore j)) (onTop g (c .operands) 2) (storing (ref (getD w (31 + c .operands) 0)) j w g (c .operands - 1))
     unfolding doing storing execute
     astore-by = record { is = λ P x cells s. ref-top w g (c .operands) (λ v r. setLocals P x (set (x .locals) j v) r) }
+
+-- ---- two operands changed places; a third put under them
+module _ (c : Place) (w g : List ℕ) where
+  abbrev topCell : ℕ
+  topCell = getD w (31 + c .operands) 0
+
+  abbrev topTag : ℕ
+  topTag = getD g (31 + c .operands) 0
+
+  abbrev nextCell : ℕ
+  nextCell = getD w (30 + c .operands) 0
+
+  abbrev nextTag : ℕ
+  nextTag = getD g (30 + c .operands) 0
+
+  abbrev pub turnedWords : List ℕ
+  turnedWords = set (set w (30 + c .operands) topCell) (31 + c .operands) nextCell
+
+  abbrev pub turnedTags : List ℕ
+  turnedTags = set (set g (30 + c .operands) topTag) (31 + c .operands) nextTag
+
+  two-by : (f : Val → Val → List Val → Result) (n : ℕ) → popAny (opsOf w g n) (λ v r. popAny r λ u q. f v u q) ≡ only (leb 2 n) (f (valAt w g (31 + n)) (valAt w g (30 + n)) (opsOf w g (n - 2)))
+  unfolding opsOf
+  two-by f zero = refl
+  two-by f (suc zero) = refl
+  two-by f (suc (suc n)) =
+      let e : 31 + suc (suc n) ≡ 32 + suc n = omega arith in
+      let e2 : 30 + suc (suc n) ≡ 32 + n = omega arith in
+      let d : suc (suc n) - 2 ≡ n = omega arith in
+      rw (le-leb 2 (suc (suc n)) (omega arith), e, e2, d)
+
+  few-two : (i : Instr) (f : Program → Here → Val → Val → List Val → Result) → ((P : Program) (x : Here) → doing w g (c .operands) i P x ≡ popAny (opsOf w g (c .operands)) (λ v r. popAny r λ u q. f P x v u q))
+      → (r : Turn) → c .operands < 2 → r .end ≡ 6 → r .operands ≡ 0 → Goes c w g w g r (doing w g (c .operands) i)
+  few-two i f h r l e z = halted c w g r _ (λ P x cells s. h P x ∙ two-by (f P x) (c .operands) ∙ rw (lt-leb 2 (c .operands) l)) e z
+
+  turned-ops : (n : ℕ) → c .operands ≡ suc (suc n) → Sized c w g → opsOf turnedWords turnedTags (suc (suc n)) ≡ valAt w g (30 + c .operands) ∷ valAt w g (31 + c .operands) ∷ opsOf w g n
+  turned-ops n e z =
+      let i : 30 + c .operands ≡ 32 + n = omega arith in
+      let j : 31 + c .operands ≡ 33 + n = omega arith in
+      let hw : 33 + n < length w = rw (z .words) (omega (arith, z .operands)) in
+      let hg : 33 + n < length g = rw (z .tags) (omega (arith, z .operands)) in
+      rw (i, j) (ops-two w g n (getD w (33 + n) 0) (getD g (33 + n) 0) (getD w (32 + n) 0) (getD g (32 + n) 0) hw hg)
+
+  turned-locs : (n : ℕ) → c .operands ≡ suc (suc n) → c .locals ≤ 32 → locsOf turnedWords turnedTags (c .locals) ≡ locsOf w g (c .locals)
+  turned-locs n e z =
+      let i : 30 + c .operands ≡ 32 + n = omega arith in
+      let j : 31 + c .operands ≡ 32 + suc n = omega arith in
+      rw (i, j) (locs-put (set w (32 + n) (getD w (32 + suc n) 0)) (set g (32 + n) (getD g (32 + suc n) 0)) (suc n) (getD w (32 + n) 0) (getD g (32 + n) 0) (c .locals) z
+      ∙ locs-put w g n (getD w (32 + suc n) 0) (getD g (32 + suc n) 0) (c .locals) z)
+
+  pub swap-few : (r : Turn) → c .operands < 2 → r .end ≡ 6 → r .operands ≡ 0 → Goes c w g w g r (doing w g (c .operands) swap)
+  unfolding doing execute
+  swap-few = few-two swap (λ P x v u q. push P x (u ∷ v ∷ q)) (λ P x. refl)
+
+  pub dupx1-few : (r : Turn) → c .operands < 2 → r .end ≡ 6 → r .operands ≡ 0 → Goes c w g w g r (doing w g (c .operands) dupx1)
+  unfolding doing execute
+  dupx1-few = few-two dupx1 (λ P x v u q. push P x (v ∷ u ∷ v ∷ q)) (λ P x. refl)
+
+  pub swap-high : (r : Turn) → 2 ≤ c .operands → c .most < c .operands → r .end ≡ 6 → r .operands ≡ 0 → Goes c w g w g r (doing w g (c .operands) swap)
+  unfolding doing execute goOn
+  swap-high r h l e z =
+      let d : suc (suc (c .operands - 2)) ≡ c .operands = omega arith in
+      halted c w g r _ (λ P x cells s. two-by (λ v u q. push P x (u ∷ v ∷ q)) (c .operands) ∙ rw (le-leb 2 (c .operands) h, length-ops w g (c .operands - 2), d, s .most, lt-leb (c .operands) (c .most) l)) e z
+
+  swap-on : 2 ≤ c .operands → c .operands ≤ c .most → Sized c w g → Goes c w g turnedWords turnedTags (record { end = 0; at = c .after; operands = c .operands; used = c .used }) (doing w g (c .operands) swap)
+  unfolding doing execute goOn
+  swap-on h l z =
+      let d : suc (suc (c .operands - 2)) ≡ c .operands = omega arith in
+      let o : opsOf turnedWords turnedTags (c .operands) ≡ valAt w g (30 + c .operands) ∷ valAt w g (31 + c .operands) ∷ opsOf w g (c .operands - 2) =
+      ap (opsOf turnedWords turnedTags) (sym d) ∙ turned-ops (c .operands - 2) (sym d) z in
+      record {
+        is = λ P x cells s. rw (two-by (λ v u q. push P x (u ∷ v ∷ q)) (c .operands), le-leb 2 (c .operands) h, length-ops w g (c .operands - 2), d, s .most, le-leb (c .operands) (c .most) l, s .heap, s .locals, s .after, o, turned-locs (c .operands - 2) (sym d) (z .locals));
+        kept = λ q. absurd (q refl);
+        room = z .operands;
+      }
+
+  pub dupx1-high : (r : Turn) → 2 ≤ c .operands → c .most ≤ c .operands → r .end ≡ 6 → r .operands ≡ 0 → Goes c w g w g r (doing w g (c .operands) dupx1)
+  unfolding doing execute goOn
+  dupx1-high r h l e z =
+      let d : suc (suc (suc (c .operands - 2))) ≡ suc (c .operands) = omega arith in
+      halted c w g r _ (λ P x cells s. two-by (λ v u q. push P x (v ∷ u ∷ v ∷ q)) (c .operands) ∙ rw (le-leb 2 (c .operands) h, length-ops w g (c .operands - 2), d, s .most, lt-leb (suc (c .operands)) (c .most) (omega arith))) e z
+
+  dupx1-on : 2 ≤ c .operands → c .operands < c .most → Sized c w g
+      → Goes c w g (set turnedWords (32 + c .operands) topCell) (set turnedTags (32 + c .operands) topTag) (record { end = 0; at = c .after; operands = c .operands + 1; used = c .used }) (doing w g (c .operands) dupx1)
+  unfolding doing execute goOn
+  dupx1-on h l z =
+      let d : suc (suc (c .operands - 2)) ≡ c .operands = omega arith in
+      let d3 : suc (suc (suc (c .operands - 2))) ≡ suc (c .operands) = omega arith in
+      let n1 : c .operands + 1 ≡ suc (c .operands) = omega arith in
+      let o : opsOf turnedWords turnedTags (c .operands) ≡ valAt w g (30 + c .operands) ∷ valAt w g (31 + c .operands) ∷ opsOf w g (c .operands - 2) =
+      ap (opsOf turnedWords turnedTags) (sym d) ∙ turned-ops (c .operands - 2) (sym d) z in
+      let hw : 32 + c .operands < length turnedWords = simp (length-set) (rw (z .words) (omega (arith, z .most))) in
+      let hg : 32 + c .operands < length turnedTags = simp (length-set) (rw (z .tags) (omega (arith, z .most))) in
+      let p : opsOf (set turnedWords (32 + c .operands) topCell) (set turnedTags (32 + c .operands) topTag) (suc (c .operands)) ≡ valAt w g (31 + c .operands) ∷ valAt w g (30 + c .operands) ∷ valAt w g (31 + c .operands) ∷ opsOf w g (c .operands - 2) =
+      ops-put turnedWords turnedTags (c .operands) topCell topTag hw hg ∙ ap (λ (t : List Val). valAt w g (31 + c .operands) ∷ t) o in
+      record {
+        is = λ P x cells s. rw (two-by (λ v u q. push P x (v ∷ u ∷ v ∷ q)) (c .operands), le-leb 2 (c .operands) h, length-ops w g (c .operands - 2), d3, s .most, le-leb (suc (c .operands)) (c .most) (omega arith), s .heap, s .locals, s .after, n1, p, locs-put turnedWords turnedTags (c .operands) topCell topTag (c .locals) (z .locals), turned-locs (c .operands - 2) (sym d) (z .locals));
+        kept = λ q. absurd (q refl);
+        room = omega (arith, z .most);
+      }
+
+  -- as the code finds them
+  pub swap-done : (w′ g′ : List ℕ) → 2 ≤ c .operands → c .operands ≤ c .most → Sized c w g → w′ ≡ turnedWords → g′ ≡ turnedTags
+      → Goes c w g w′ g′ (record { end = 0; at = c .after; operands = c .operands; used = c .used }) (doing w g (c .operands) swap)
+  swap-done w′ g′ h l z e f = rw (e, f) (swap-on h l z)
+
+  pub dupx1-done : (w′ g′ : List ℕ) → 2 ≤ c .operands → c .operands < c .most → Sized c w g → w′ ≡ turnedWords → g′ ≡ turnedTags
+      → Goes c w g (set w′ (32 + c .operands) topCell) (set g′ (32 + c .operands) topTag) (record { end = 0; at = c .after; operands = c .operands + 1; used = c .used }) (doing w g (c .operands) dupx1)
+  dupx1-done w′ g′ h l z e f = rw (e, f) (dupx1-on h l z)
+
+pub ruleset turnings = (swap-few, swap-high, swap-done, dupx1-few, dupx1-high, dupx1-done)
 
 -- ---- what the tests tell
 first-true : (a t : Bool) → cond a t false ≡ true → a ≡ true

@@ -6,7 +6,7 @@ ghost use Rattle.verifier.specs.Instruction.{nop, aconstnull, pop, dup, dupx1, 
 ghost use Rattle.verifier.specs.Opcodes.{testOf};
 ghost use Rattle.verifier.specs.InstructionWords.{opOf, divisionOf};
 ghost use Rattle.machine.specs.Windows.{Sized, Goes};
-ghost use Rattle.machine.specs.WindowForms.{doing, onTop, twoInts, inLocal};
+ghost use Rattle.machine.specs.WindowForms.{doing, onTop, twoInts, inLocal, turnedWords, turnedTags};
 use crate::integers;
 use crate::values::Value;
 use crate::window::Place;
@@ -49,6 +49,21 @@ fn in_local(g: &[u8], c: Place, j: usize, kind: u8) -> bool
         return false;
     }
     g[j] == kind
+}
+
+// The two operands on top change places.
+fn turn(w: &mut [u32], g: &mut [u8], c: Place)
+    requires { ⌜ (length (now w) ≡ 64) × (length (now g) ≡ 64) × (2 ≤ c .operands) × (c .operands ≤ 32) ⌝ }
+    ensures { λ _. ⌜ (now (w .exit) ≡ turnedWords c (now (w .entry)) (now (g .entry))) × (now (g .exit) ≡ turnedTags c (now (w .entry)) (now (g .entry))) ⌝ }
+{
+    let i = 30 + c.operands;
+    let j = 31 + c.operands;
+    let b = w[i];
+    let l = g[i];
+    w[i] = w[j];
+    w[j] = b;
+    g[i] = g[j];
+    g[j] = l;
 }
 
 pub fn nop(w: &[u32], g: &[u8], c: Place) -> Turn
@@ -236,4 +251,49 @@ pub fn increment(w: &mut [u32], g: &mut [u8], c: Place, j: u16, k: u32) -> Turn
     }
     let v = Value::num(integers::iadd(w[i], k));
     window::put_local(w, g, c, i, v)
+}
+
+pub fn swap(w: &mut [u32], g: &mut [u8], c: Place) -> Turn
+    requires { ⌜ Sized c (now w) (now g) ⌝ }
+    ensures { λ r. ⌜ Goes c (now (w .entry)) (now (g .entry)) (now (w .exit)) (now (g .exit)) r (doing (now (w .entry)) (now (g .entry)) (c .operands) swap) ⌝ }
+{
+    if c.operands < 2 {
+        return window::stuck(c);
+    }
+    if c.most < c.operands {
+        return window::stuck(c);
+    }
+    turn(w, g, c);
+    Turn {
+        end: Turn::ON,
+        at: c.after,
+        operands: c.operands,
+        used: c.used,
+    }
+}
+
+// The top operand goes under the next one too.
+pub fn dup_under(w: &mut [u32], g: &mut [u8], c: Place) -> Turn
+    requires { ⌜ Sized c (now w) (now g) ⌝ }
+    ensures { λ r. ⌜ Goes c (now (w .entry)) (now (g .entry)) (now (w .exit)) (now (g .exit)) r (doing (now (w .entry)) (now (g .entry)) (c .operands) dupx1) ⌝ }
+{
+    if c.operands < 2 {
+        return window::stuck(c);
+    }
+    if c.most <= c.operands {
+        return window::stuck(c);
+    }
+    let j = 31 + c.operands;
+    let a = w[j];
+    let k = g[j];
+    turn(w, g, c);
+    let i = 32 + c.operands;
+    w[i] = a;
+    g[i] = k;
+    Turn {
+        end: Turn::ON,
+        at: c.after,
+        operands: c.operands + 1,
+        used: c.used,
+    }
 }
