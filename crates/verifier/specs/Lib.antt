@@ -57,6 +57,9 @@ pub mod FrameReading
 pub mod FrameReadLaws
 pub mod Besides
 pub mod FrameTypes
+pub mod CleanFaults
+pub mod Drawing
+pub mod DrawLaws
 pub mod Verify
 pub mod Computing
 pub mod Laws

@@ -1,11 +1,13 @@
 // The frame table read: each frame's types as words.
 ghost use mathlib.Core.Path.{_≡_};
+ghost use mathlib.Core.Bool.{false};
 ghost use Prim.Native.Nat.{_+_, _^_, _<_, _≤_};
 ghost use Rattle.reader.specs.Answers.{resAs};
 ghost use Rattle.verifier.specs.TypeWords.{typeOf};
 ghost use Rattle.verifier.specs.Marks.{Ready};
 ghost use Rattle.verifier.specs.FrameReading.{okType, wrongType, typeNamed, typeClassed, typeMade, typeTagged, typeAt};
 ghost use Rattle.verifier.specs.FrameTypes.{Types};
+ghost use Rattle.verifier.specs.Drawing.{drawing, oneBy, appendBy, Drew};
 use crate::codes;
 use crate::decode;
 use crate::marks;
@@ -137,4 +139,87 @@ fn types(s: &[u8], t: &mut [u8], x: Site, f: &[u8], k: usize, n: usize, w: usize
         val: 0,
         at: at,
     }
+}
+
+// A frame as it is written: its delta, how many locals and operands it has in the words at hand, and the position past it.
+pub struct Drawn {
+    pub ok: bool,
+    pub delta: usize,
+    pub locals: usize,
+    pub stack: usize,
+    pub at: usize,
+}
+
+fn sketched(delta: usize, locals: usize, stack: usize, at: usize) -> Drawn
+    ensures { λ r. ⌜ r ≡ drawing delta locals stack at ⌝ }
+{
+    Drawn {
+        ok: true,
+        delta: delta,
+        locals: locals,
+        stack: stack,
+        at: at,
+    }
+}
+
+fn unfit() -> Drawn
+    ensures { λ r. ⌜ r .ok ≡ false ⌝ }
+{
+    Drawn {
+        ok: false,
+        delta: 0,
+        locals: 0,
+        stack: 0,
+        at: 0,
+    }
+}
+
+// One operand, at q, with n locals before it.
+fn one_operand(
+    s: &[u8],
+    t: &mut [u8],
+    x: Site,
+    f: &[u8],
+    k: usize,
+    d: usize,
+    n: usize,
+    q: usize,
+) -> Drawn
+    requires { ⌜ Ready (now s) (now t) x × (n ≤ x .locals) ⌝ }
+    ensures { λ r. ⌜ Drew (now (s .entry)) (now (t .entry)) x k (oneBy (now (s .entry)) (now (t .entry)) x (now (f .entry)) k d n q) r (now (t .exit)) ⌝ }
+{
+    if x.stack < 1 {
+        return unfit();
+    }
+    let r = type_at(s, t, x, f, k, q);
+    if !r.ok {
+        return unfit();
+    }
+    kit::put_word(t, 65216, r.val as u32);
+    sketched(d, n, 1, r.at)
+}
+
+// m locals more, from q on.
+fn append(
+    s: &[u8],
+    t: &mut [u8],
+    x: Site,
+    f: &[u8],
+    k: usize,
+    d: usize,
+    m: usize,
+    n: usize,
+    q: usize,
+) -> Drawn
+    requires { ⌜ Ready (now s) (now t) x × (n ≤ x .locals) × (m ≤ 3) ⌝ }
+    ensures { λ r. ⌜ Drew (now (s .entry)) (now (t .entry)) x k (appendBy (now (s .entry)) (now (t .entry)) x (now (f .entry)) k d m n q) r (now (t .exit)) ⌝ }
+{
+    if x.locals < n + m {
+        return unfit();
+    }
+    let r = types(s, t, x, f, k, m, 65184 + n, q);
+    if r.ok {
+        return sketched(d, n + m, 0, r.at);
+    }
+    unfit()
 }
