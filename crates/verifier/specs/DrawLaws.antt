@@ -8,7 +8,8 @@ use native.Mathlib.Omega.{arith}
 use native.Mathlib.Numerals.{add-one}
 use native.Mathlib.Nat.{zero-add, add-zero}
 use lib.Dec.{leb}
-use lib.ListN.{length, length-append}
+use lib.ListN.{length, take, length-append}
+use lib.Seq.{take-at}
 use borrow.Author.Tests.{le-leb, lt-leb, not-true, not-false}
 use Rattle.kit.specs.Bools.{not-so}
 use Rattle.kit.specs.Words.{word, putWord, word-same}
@@ -19,14 +20,14 @@ use Rattle.verifier.specs.Types.{Ty}
 use Rattle.verifier.specs.TypeWords.{typeOf}
 use Rattle.verifier.specs.Slots.{slot, localsAt}
 use Rattle.verifier.specs.SlotLaws.{length-locals}
-use Rattle.verifier.specs.Frames.{Written, written, oneOnStack, appended, infoAt}
+use Rattle.verifier.specs.Frames.{Written, written, oneOnStack, appended, chopped, infoAt}
 use Rattle.verifier.specs.Sites.{Here, front, programAt, methodAt}
 use Rattle.verifier.specs.Marks.{Ready, linesAt}
 use Rattle.verifier.specs.FrameReading.{typeAt}
 use Rattle.verifier.specs.FrameTypes.{Types}
 use Rattle.verifier.specs.Besides.{Besides, besides-none, besides-put, besides-wide, besides-locals, locals-more}
 use Rattle.verifier.specs.CleanFaults.{clean, clean-then, clean-many, clean-type, many-length}
-use Rattle.verifier.specs.Drawing.{drawing, listIn, stackIn, drawnAs, sized, oneBy, appendBy, Drew}
+use Rattle.verifier.specs.Drawing.{drawing, listIn, stackIn, drawnAs, sized, oneBy, appendBy, chopBy, Drew}
 use Rattle.verifier.specs.declared.site.Site.{Site}
 use Rattle.verifier.specs.declared.frame_reader.Drawn.{Drawn}
 
@@ -174,3 +175,19 @@ module _ (s t : List ℕ) (x : Site) (f : List ℕ) (k d m n q : ℕ) where
         let e : listIn u n ≡ listIn t n = besides-locals (65184 + n) m t u (y .besides) 65184 n (inl (omega arith)) in
         let j : listIn u (n + m) ≡ listIn t n ++ localsAt u (65184 + n) m = locals-append u 65184 n m ∙ ap (λ (i : List Ty). i ++ localsAt u (65184 + n) m) e in
         drawn-drew s t x k _ r u d (n + m) 0 (a .at) z (append-is ∙ rw (b, ← j)) l (omega arith) wider
+
+-- ---- the last m are dropped
+module _ (s t : List ℕ) (x : Site) (f : List ℕ) (k d m n e : ℕ) where
+  pub chop-none : (r : Drawn) → r .ok ≡ false → n < m → Drew s t x k (chopBy s t x f k d m n e) r t
+  unfolding chopBy chopped andThen
+  chop-none r z h =
+      unfit-drew s t x k _ r t z (rw (length-locals t 65184 n, lt-leb m n h)) (besides-none 65184 64 t)
+
+  pub chop-good : (r : Drawn) → r ≡ drawing d (n - m) 0 e → m ≤ n → n ≤ x .locals → Drew s t x k (chopBy s t x f k d m n e) r t
+  unfolding chopBy chopped localsAt
+  chop-good r z h l =
+      let y : n ≡ n - m + m = omega arith in
+      let j : take (n - m) (listIn t n) ≡ listIn t (n - m) =
+      ap (λ (i : ℕ). take (n - m) (listIn t i)) y ∙ ap (take (n - m)) (locals-append t 65184 (n - m) m)
+      ∙ take-at (listIn t (n - m)) (localsAt t (65184 + (n - m)) m) (n - m) (length-locals t 65184 (n - m)) in
+      drawn-drew s t x k _ r t d (n - m) 0 e z (rw (length-locals t 65184 n, le-leb m n h, ← j)) (omega arith) (omega arith) (besides-none 65184 64 t)

@@ -7,7 +7,7 @@ ghost use Rattle.verifier.specs.TypeWords.{typeOf};
 ghost use Rattle.verifier.specs.Marks.{Ready};
 ghost use Rattle.verifier.specs.FrameReading.{okType, wrongType, typeNamed, typeClassed, typeMade, typeTagged, typeAt};
 ghost use Rattle.verifier.specs.FrameTypes.{Types};
-ghost use Rattle.verifier.specs.Drawing.{drawing, oneBy, appendBy, Drew};
+ghost use Rattle.verifier.specs.Drawing.{drawing, oneBy, appendBy, chopBy, Drew};
 use crate::codes;
 use crate::decode;
 use crate::marks;
@@ -222,4 +222,25 @@ fn append(
         return sketched(d, n + m, 0, r.at);
     }
     unfit()
+}
+
+// The last m of n locals are dropped.
+fn chop(
+    s: &[u8],
+    t: &[u8],
+    x: Site,
+    f: &[u8],
+    k: usize,
+    d: usize,
+    m: usize,
+    n: usize,
+    e: usize,
+) -> Drawn
+    requires { ⌜ Ready (now s) (now t) x × (n ≤ x .locals) ⌝ }
+    ensures { λ r. ⌜ Drew (now (s .entry)) (now (t .entry)) x k (chopBy (now (s .entry)) (now (t .entry)) x (now (f .entry)) k d m n e) r (now (t .entry)) ⌝ }
+{
+    if n < m {
+        return unfit();
+    }
+    sketched(d, n - m, 0, e)
 }
