@@ -2,7 +2,7 @@
 use Prim.Native.Nat.{ℕ, zero, suc, _+_, _*_, _^_, _/_, _<_, _≤_}
 use mathlib.Core.Path.{_≡_, refl, sym, ap, _∙_}
 use mathlib.Core.Bool.{Bool, true, false, cond, not}
-use mathlib.Core.List.{List, []}
+use mathlib.Core.List.{List, [], _∷_}
 use mathlib.Core.Option.{Option, none, some}
 use mathlib.Core.Logic.{_⊎_, inl, inr}
 use native.Mathlib.Omega.{arith}
@@ -10,7 +10,7 @@ use lib.ListN.{length, take}
 use borrow.Author.Tests.{not-true, not-false}
 use Rattle.kit.specs.Pick.{side}
 use Rattle.kit.specs.Words.{word, putWord, word-same, word-other}
-use Rattle.kit.specs.Claims.{is, verdict, nothing, fails}
+use Rattle.kit.specs.Claims.{claim, is, verdict, nothing, is-zero, fail-pass, verdict-yes, verdict-no}
 use Rattle.reader.specs.BlockWords.{take-put}
 use Rattle.reader.specs.Program.{Program}
 use Rattle.verifier.specs.States.{State, stateFits}
@@ -121,11 +121,13 @@ module _ (t : List ℕ) (p : Standing) (F : Option State) (h : standing t p ≡ 
       go b z = rw z
 
 module _ (P : Program) (live : Bool) (S : State) (F : Option State) where
-  pub meet-on : live ≡ true → F ≡ none → is 0 ≡ verdict (meets P (current live S) F)
-  meet-on e f = rw (e, f) (nothing 0 refl)
-
-  pub meet-lost : live ≡ false → F ≡ none → is 17 ≡ verdict (meets P (current live S) F)
-  meet-lost e f = rw (e, f) (fails 17 [] false refl refl)
+  -- without a frame the state goes on, where there is one
+  pub meet-none : (r : ℕ) → F ≡ none → is r ≡ verdict (claim 17 live ∷ []) → is r ≡ verdict (meets P (current live S) F)
+  meet-none r f h = h ∙ go live ∙ ap (λ (G : Option State). verdict (meets P (current live S) G)) (sym f)
+    where
+      go : (b : Bool) → verdict {K = ℕ} (claim 17 b ∷ []) ≡ verdict (meets P (current b S) none)
+      go true = verdict-yes 17 true [] refl
+      go false = refl
 
   module _ (G : State) (f : F ≡ some G) where
     pub meet-fit : live ≡ true → (r : ℕ) → is r ≡ verdict (stateFits P S G) → is r ≡ verdict (meets P (current live S) F)
@@ -135,8 +137,12 @@ module _ (P : Program) (live : Bool) (S : State) (F : Option State) where
     meet-new e = rw (e, f) (nothing 0 refl)
 
 module _ (live : Bool) (S : State) (F : Option State) where
-  pub merge-on : live ≡ true → F ≡ none → S ≡ merged (current live S) F
-  merge-on e f = rw (e, f)
+  pub merge-none : (r : ℕ) → F ≡ none → is r ≡ verdict (claim 17 live ∷ []) → r ≡ 0 → S ≡ merged (current live S) F
+  merge-none r f h z = go live h ∙ ap (merged (current live S)) (sym f)
+    where
+      go : (b : Bool) → is r ≡ verdict (claim 17 b ∷ []) → S ≡ merged (current b S) none
+      go true e = refl
+      go false e = absurd (fail-pass 17 (sym (verdict-no 17 false [] refl) ∙ sym e ∙ is-zero r z))
 
   pub merge-frame : (G X : State) → F ≡ some G → X ≡ G → X ≡ merged (current live S) F
   merge-frame G X f e = e ∙ go live ∙ ap (merged (current live S)) (sym f)

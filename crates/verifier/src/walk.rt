@@ -34,6 +34,7 @@ use crate::site::Ruled;
 use crate::site::Site;
 use crate::slots::Held;
 use crate::slots::fit_states;
+use crate::slots::must;
 use crate::slots::peek;
 use crate::start::start;
 use crate::types::Kin;
@@ -95,14 +96,8 @@ fn enter(t: &mut [u8], kin: Kin, f: Rows, live: bool, h: Held, o: usize) -> Step
     let p = find(t, f, o);
     let g = p.held;
     if !p.there {
-        if live {
-            return Step {
-                refusal: 0,
-                held: h,
-            };
-        }
         return Step {
-            refusal: 17,
+            refusal: must(live, 17),
             held: h,
         };
     }
