@@ -31,6 +31,7 @@ pub mod Known
 pub mod KnownLaws
 pub mod Sites
 pub mod SiteLaws
+pub mod Fronts
 pub mod Resolving
 pub mod Located
 pub mod Kept
