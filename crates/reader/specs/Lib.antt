@@ -40,4 +40,6 @@ pub mod MethodTypes
 pub mod MemberPass
 pub mod FileLimits
 pub mod Whole
+pub mod FaultNumbers
+pub mod Outlet
 pub mod Computing

@@ -8,6 +8,7 @@ pub mod linking;
 pub mod lookup;
 pub mod members;
 pub mod names;
+pub mod outlet;
 pub mod overriding;
 pub mod pool;
 pub mod signature;
