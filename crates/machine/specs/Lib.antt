@@ -15,3 +15,5 @@ pub mod WindowForms
 pub mod HeapTurns
 pub mod HeapForms
 pub mod GroupLaws
+pub mod Calls
+pub mod NextWindow

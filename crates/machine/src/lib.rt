@@ -1,5 +1,6 @@
 // The plain machine. The definitions are in specs/.
 pub mod forms;
+pub mod frames;
 pub mod groups;
 pub mod heap;
 pub mod integers;
