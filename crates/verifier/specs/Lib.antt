@@ -62,6 +62,7 @@ pub mod CleanFaults
 pub mod Drawing
 pub mod DrawLaws
 pub mod Verify
+pub mod Phases
 pub mod Computing
 pub mod Laws
 pub mod Counts

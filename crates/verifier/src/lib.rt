@@ -12,6 +12,7 @@ pub mod instruction;
 pub mod locate;
 pub mod marks;
 pub mod opcodes;
+pub mod phases;
 pub mod resolve;
 pub mod shape;
 pub mod site;
