@@ -63,6 +63,7 @@ pub mod Drawing
 pub mod DrawLaws
 pub mod Verify
 pub mod Phases
+pub mod Passing
 pub mod Computing
 pub mod Laws
 pub mod Counts

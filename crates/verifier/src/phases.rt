@@ -1,13 +1,17 @@
 // Phases C and D over all methods of the bundle, class after class.
 use crate::locate;
+use crate::marks;
 use crate::shape;
 use crate::site::Ruled;
+use crate::site::Site;
 use reader::signature;
 ghost use mathlib.Core.Path.{_≡_};
 ghost use mathlib.Core.Bool.{true};
 ghost use Prim.Native.Nat.{_<_};
 ghost use Rattle.reader.specs.MemberRows.{blockAt, rowCount};
 ghost use Rattle.verifier.specs.Sites.{front};
+ghost use Rattle.kit.specs.Claims.{pass};
+ghost use Rattle.verifier.specs.Passing.{Typable};
 ghost use Rattle.verifier.specs.Phases.{Readied, shapeBy, passed, Judged, judgedAt, ofClass, ofAll, Done};
 
 // A verdict: 0, or the refusal's number; where, with 65535 for no class and no method.
@@ -74,4 +78,14 @@ pub fn shape_all(s: &[u8], t: &mut [u8], n: usize) -> Verdict
         c += 1;
     }
     pass()
+}
+
+// The site of method m of class c after phase C, with its marks in the scratch.
+fn typable(s: &[u8], t: &mut [u8], n: usize, c: usize, m: usize) -> Site
+    requires { ⌜ Readied (now s) n (now t) × (c < n) × (m < rowCount (blockAt (front (now t)) c) true) × (judgedAt shapeBy (now s) n (now t) c m ≡ pass) ⌝ }
+    ensures { λ x. ⌜ Typable (now (s .entry)) n c m x (now (t .entry)) (now (t .exit)) ⌝ }
+{
+    let x = locate::site(s, &t[0..187008], n, c, m);
+    marks::mark(s, t, x);
+    x
 }
