@@ -17,3 +17,4 @@ pub mod HeapForms
 pub mod GroupLaws
 pub mod Calls
 pub mod NextWindow
+pub mod CallSteps
