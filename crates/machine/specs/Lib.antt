@@ -18,3 +18,4 @@ pub mod GroupLaws
 pub mod Calls
 pub mod NextWindow
 pub mod CallSteps
+pub mod Arguments

@@ -1,4 +1,5 @@
 // The plain machine. The definitions are in specs/.
+pub mod arguments;
 pub mod calls;
 pub mod forms;
 pub mod frames;
