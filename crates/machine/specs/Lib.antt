@@ -19,3 +19,5 @@ pub mod Calls
 pub mod NextWindow
 pub mod CallSteps
 pub mod Arguments
+pub mod Catching
+pub mod Landing

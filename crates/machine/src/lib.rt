@@ -1,6 +1,7 @@
 // The plain machine. The definitions are in specs/.
 pub mod arguments;
 pub mod calls;
+pub mod catching;
 pub mod forms;
 pub mod frames;
 pub mod groups;
