@@ -15,7 +15,7 @@ use Rattle.kit.specs.Pick.{side}
 use Rattle.reader.specs.Program.{Program, method}
 use Rattle.verifier.specs.Opcodes.{body, codeOf, sizeAt}
 use Rattle.machine.specs.Heap.{Heap, Val}
-use Rattle.machine.specs.Machine.{call, machine, Result, next, stopped, Here, enter, giveBack}
+use Rattle.machine.specs.Machine.{call, machine, Result, next, stopped, Here, enter, giveBack, ended, returned}
 use Rattle.machine.specs.ValueLaws.{valueOf}
 use Rattle.machine.specs.Windows.{locsFrom, locsOf, opsOf, endOf, ops-put, locs-put}
 use Rattle.machine.specs.Calls.{windowAt, frameAt, callOf, callAt, waiting, length-waiting, waiting-kept, waiting-more, Saved}
@@ -114,6 +114,11 @@ pub record Gives (t s g s′ g′ : List ℕ) (a d size : ℕ) (rs : List Val) (
       → goingOf H t a s′ g′ r ≡ giveBack P H rs (waiting t a s g d)
   pub on : (r .end ≡ 0) × (r .depth ≡ d - 1) × (r .call ≡ resumedAt t a (d - 1) size (length rs))
   pub lent : Lent t s g a → Lent t s′ g′ a
+
+-- from the first call there is nothing to go back to
+pub back-last : (P : Program) (H : Heap) (t s g : List ℕ) (a : ℕ) (rs : List Val) → giveBack P H rs (waiting t a s g 0) ≡ ended (returned rs) H
+unfolding waiting giveBack
+back-last P H t s g a rs = refl
 
 module _ (t s g : List ℕ) (a e size : ℕ) where
   back-is : (rs : List Val) (P : Program) (H : Heap) → sizeAt (codeOf (method P (frameAt t a e .class) (frameAt t a e .method))) (frameAt t a e .offset) ≡ size

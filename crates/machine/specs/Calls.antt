@@ -1,12 +1,13 @@
 -- The calls as the code has them: a window of 64 slots and tags for each depth, a record of six words for each call that waits. Assumes nothing.
 use Prim.Native.Nat.{ℕ, zero, suc, _+_, _*_, _/_, _^_, _<_, _≤_}
 use mathlib.Core.Path.{_≡_, refl, sym, ap, subst, _∙_}
-use mathlib.Core.List.{List, [], _∷_}
+use mathlib.Core.List.{List, [], _∷_, _++_}
 use mathlib.Core.Logic.{_⊎_, inl, inr}
 use native.Mathlib.Omega.{arith}
 use native.Mathlib.Nat.{zero-add, add-zero}
 use lib.ListN.{length, getD, take, drop}
-use Rattle.kit.specs.Lists.{part-part}
+use lib.Seq.{length-take-le, take-at, drop-at}
+use Rattle.kit.specs.Lists.{part-part, length-back}
 use Rattle.kit.specs.Pick.{side}
 use Rattle.kit.specs.Words.{word, putWord, word-same, word-other, length-put}
 use Rattle.reader.specs.BlockWords.{take-put}
@@ -65,6 +66,24 @@ module _ (t t′ : List ℕ) (a : ℕ) (s s′ g g′ : List ℕ) where
   pub waiting-kept : (d : ℕ) → ((e : ℕ) → e < d → frameAt t a e ≡ frameAt t′ a e) → take (64 * d) s ≡ take (64 * d) s′ → take (64 * d) g ≡ take (64 * d) g′
       → waiting t a s g d ≡ waiting t′ a s′ g′ d
   waiting-kept d f p q = waiting-by d f (λ e b. window-kept s s′ d e p b) (λ e b. window-kept g g′ d e q b)
+
+-- a window that came back as m, in the checker's form of what a `&mut` part leaves
+module _ (l m : List ℕ) (d : ℕ) (h : length m ≡ 64) (f : 64 * d + 64 ≤ length l) where
+  abbrev back : List ℕ
+  back = take (64 * d) l ++ (m ++ drop 64 (drop (64 * d) l))
+
+  in-front : length (take (64 * d) l) ≡ 64 * d
+  in-front = length-take-le (64 * d) l (omega arith)
+
+  pub part-front : take (64 * d) back ≡ take (64 * d) l
+  part-front = take-at (take (64 * d) l) (m ++ drop 64 (drop (64 * d) l)) (64 * d) in-front
+
+  pub part-window : windowAt back d ≡ m
+  part-window =
+      ap (take 64) (drop-at (take (64 * d) l) (m ++ drop 64 (drop (64 * d) l)) (64 * d) in-front) ∙ take-at m (drop 64 (drop (64 * d) l)) 64 h
+
+  pub part-length : length back ≡ length l
+  part-length = length-back l m (64 * d) 64 h f
 
 -- ---- a record put
 pub record Saved (t t′ : List ℕ) (a d : ℕ) (k : Frame) : Type 0 where
