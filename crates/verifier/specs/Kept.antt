@@ -38,7 +38,7 @@ module _ (s : List ℕ) (n : ℕ) (t u : List ℕ) (h : Tables s n t) (e : take 
   fs : filesIn s n u ≡ filesIn s n t
   fs = files-same s n t u (h .most) e
 
-  few : (c j : ℕ) → c < n → j < rowCount (blockAt t c) true → length (paramsIn t (64 * c + j)) ≤ 16
+  pub few : (c j : ℕ) → c < n → j < rowCount (blockAt t c) true → length (paramsIn t (64 * c + j)) ≤ 16
   unfolding methodOf
   few c j l g =
       rw (h .types .params c j l g, method-at s n t (h .most) c l j g)

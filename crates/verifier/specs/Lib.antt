@@ -64,6 +64,8 @@ pub mod DrawLaws
 pub mod Verify
 pub mod Phases
 pub mod Passing
+pub mod Typing
+pub mod Verified
 pub mod Computing
 pub mod Laws
 pub mod Counts

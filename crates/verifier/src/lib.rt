@@ -20,4 +20,5 @@ pub mod slots;
 pub mod start;
 pub mod steps;
 pub mod types;
+pub mod verify;
 pub mod walk;
