@@ -3,7 +3,16 @@ import os
 import re
 
 ROOT = os.path.dirname(os.path.dirname(os.path.abspath(__file__)))
-CRATES = {"kit": "", "reader": "kit", "verifier": "kit reader", "machine": "kit reader verifier"}
+
+
+def depends():
+    """Each crate of crates.txt and what it depends on, in order."""
+    with open(os.path.join(ROOT, "crates.txt")) as file:
+        return dict((name, names.split()) for name, names in (line.split(":") for line in file if line.strip()))
+
+
+DEPENDS = depends()
+CRATES = {name: " ".join(DEPENDS[name]) for name in DEPENDS["machine"] + ["machine"]}
 
 
 def spec(crate, module):

@@ -2,22 +2,15 @@
 
 mod common;
 
-use common::vectors;
 use flosquedo::engine::{chosen, Engine};
 use flosquedo::explain::{acceptance, refusal};
 use flosquedo::source::Source;
 use flosquedo_mutator::{mutate, Aim};
+use flosquedo_outside::{bundles, corpus};
 use std::collections::BTreeSet;
 use std::fs;
 
 const MUTANTS: u64 = 4_000;
-
-fn bundles(directory: &str) -> Vec<Vec<u8>> {
-    let entries = fs::read_dir(vectors().join(directory)).expect("the vectors are there");
-    let mut paths: Vec<_> = entries.map(|entry| entry.unwrap().path()).collect();
-    paths.sort();
-    paths.iter().map(|path| fs::read(path).unwrap()).collect()
-}
 
 /// Explains a bundle and gives its verdict's number.
 fn explain(bytes: &[u8]) -> u32 {
@@ -64,12 +57,7 @@ fn every_edge_and_example_is_explained() {
 
 #[test]
 fn mutants_are_explained() {
-    let corpus = [
-        bundles("edges"),
-        bundles("examples"),
-        bundles("jobs/bundles"),
-    ]
-    .concat();
+    let corpus = corpus();
     let mut numbers = BTreeSet::new();
     for seed in 0..MUTANTS {
         let aim = if seed % 2 == 0 {

@@ -2,7 +2,8 @@
 
 mod common;
 
-use common::{flosquedo, fresh_directory, rows, sample_text, shown, vectors, written};
+use common::{flosquedo, fresh_directory, sample_text, shown, written};
+use flosquedo_outside::{rows, vectors};
 
 #[test]
 fn verify_prints_the_verdict_of_every_edge_and_example() {

@@ -3,8 +3,9 @@
 mod common;
 
 use common::{
-    agent, flosquedo, fresh_directory, sample, sample_classes, sample_text, shown, vectors, written,
+    agent, flosquedo, fresh_directory, sample, sample_classes, sample_text, shown, written,
 };
+use flosquedo_outside::vectors;
 use std::fs;
 
 fn edge(name: &str) -> String {

@@ -1,21 +1,13 @@
 //! Thousands of damaged bundles: no panic, and no accepted one gets stuck.
 
-mod common;
-
 use std::collections::BTreeMap;
 
-use common::{bundle, names_in};
 use flosquedo_mutator::{mutate, Aim, Random};
+use flosquedo_outside::{bundle, corpus};
 use flosquedo_reference::{entries, limits, run, verify, End, Outcome, Verdict};
 
 const MUTANTS: u64 = 20_000;
 const UNTOUCHED: u32 = 0x5a5a_5a5a;
-
-fn corpus() -> Vec<Vec<u8>> {
-    let directories = ["jobs/bundles", "examples", "edges"];
-    let names = directories.iter().flat_map(|directory| names_in(directory));
-    names.map(|name| bundle(&name)).collect()
-}
 
 /// Checks one damaged bundle and gives its verdict.
 fn check_mutant(bytes: &[u8], seed: u64) -> Verdict {

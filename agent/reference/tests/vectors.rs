@@ -1,8 +1,6 @@
 //! Every vector: edges, the paper's examples, and the jobs.
 
-mod common;
-
-use common::{arguments, bundle, fnv1a64, names_in, number, rows, signed};
+use flosquedo_outside::{arguments, bundle, fnv1a64, names_in, number, rows, signed};
 use flosquedo_reference::{limits, run, verify, End, Outcome, Verdict};
 
 /// What unused cells must still hold after a run.
@@ -106,7 +104,15 @@ fn check_edge_run(row: &[String]) {
     };
     assert_eq!(outcome, expected, "{}", row[0]);
     let (used, unused) = heap.split_at(outcome.used as usize);
-    assert_eq!(format!("{:016x}", fnv1a64(used)), row[10], "{}", row[0]);
+    assert_eq!(
+        format!(
+            "{:016x}",
+            fnv1a64(used.iter().flat_map(|cell| cell.to_le_bytes()))
+        ),
+        row[10],
+        "{}",
+        row[0]
+    );
     assert!(unused.iter().all(|&cell| cell == UNTOUCHED), "{}", row[0]);
 }
 

@@ -2,7 +2,7 @@
 use Prim.Native.Nat.{ℕ, _/_, _%_}
 use mathlib.Core.List.{List, [], _∷_, _++_}
 use lib.ListN.{length}
-use Rattle.reader.specs.Names.{Text, init, Code, StackMapTable}
+use Rattle.texts.specs.Names.{Text, init, Code, StackMapTable}
 
 abbrev pub u2 : ℕ → List ℕ
 u2 v = v / 256 % 256 ∷ v % 256 ∷ []

@@ -3,10 +3,10 @@ use Prim.Native.Nat.{ℕ}
 use mathlib.Core.Path.{_≡_, refl, ap, _∙_}
 use mathlib.Core.Bool.{true}
 use mathlib.Core.List.{List, [], _∷_, _++_}
-use Rattle.reader.specs.Limits.{unnamed}
+use Rattle.classfiles.specs.Limits.{unnamed}
 use Rattle.reader.specs.Verdicts.{numbers}
 use Rattle.reader.specs.Computing.{reading}
-use Rattle.verifier.specs.Verify.{verdictOf}
+use Rattle.shaping.specs.Verify.{verdictOf}
 use Rattle.verifier.specs.Computing.{verifying}
 use Rattle.machine.specs.Run.{Lent, sizesOk, answerOf, answerNumbers, noVerdict, runOf}
 use Rattle.machine.specs.Computing.{running}

@@ -8,11 +8,11 @@ use native.Mathlib.Numerals.{add-one}
 use native.Mathlib.Omega.{arith}
 use Rattle.kit.specs.Words.{word}
 use Rattle.kit.specs.Scan.{allOf, all-none, all-more, all-same}
-use Rattle.reader.specs.Blocks.{listed}
-use Rattle.reader.specs.Descriptors.{Desc}
+use Rattle.classfiles.specs.Blocks.{listed}
+use Rattle.classfiles.specs.Descriptors.{Desc}
 use Rattle.reader.specs.Program.{Program}
-use Rattle.verifier.specs.InstructionWords.{descOf}
-use Rattle.verifier.specs.Ancestry.{lineage, Parents}
+use Rattle.rules.specs.InstructionWords.{descOf}
+use Rattle.rules.specs.Ancestry.{lineage, Parents}
 use Rattle.machine.specs.Heap.{Heap, heap, Val, valueFits}
 use Rattle.machine.specs.Machine.{stuck, Result, stopped, only, popArguments}
 use Rattle.machine.specs.Objects.{fits-here}

@@ -13,7 +13,7 @@ use lib.Seq.{take-set-le, take-set-lt, drop-set-add}
 use Rattle.kit.specs.Lists.{length-part}
 use Rattle.kit.specs.Pick.{side}
 use Rattle.reader.specs.Program.{Program, method}
-use Rattle.verifier.specs.Opcodes.{body, codeOf, sizeAt}
+use Rattle.rules.specs.Opcodes.{body, codeOf, sizeAt}
 use Rattle.machine.specs.Heap.{Heap, Val}
 use Rattle.machine.specs.Machine.{call, machine, Result, next, stopped, Here, enter, giveBack, ended, returned}
 use Rattle.machine.specs.ValueLaws.{valueOf}

@@ -10,7 +10,7 @@ use lib.Seq.{length-take-le, take-at, drop-at}
 use Rattle.kit.specs.Lists.{part-part, length-back}
 use Rattle.kit.specs.Pick.{side}
 use Rattle.kit.specs.Words.{word, putWord, word-same, word-other, length-put}
-use Rattle.reader.specs.BlockWords.{take-put}
+use Rattle.classfiles.specs.BlockWords.{take-put}
 use Rattle.machine.specs.Machine.{Call, call}
 use Rattle.machine.specs.Windows.{locsOf, opsOf}
 use Rattle.machine.specs.declared.frames.Frame.{Frame}

@@ -7,14 +7,14 @@ use mathlib.Core.Option.{Option, none, some}
 use native.Mathlib.Omega.{arith}
 use lib.Dec.{eqb, ltb}
 use Rattle.kit.specs.Words.{word}
-use Rattle.reader.specs.Reading.{u2At}
+use Rattle.texts.specs.Reading.{u2At}
 use Rattle.reader.specs.BuiltIns.{throwable}
-use Rattle.reader.specs.Attributes.{handlersFrom}
-use Rattle.reader.specs.Members.{Handler}
+use Rattle.classfiles.specs.Attributes.{handlersFrom}
+use Rattle.classfiles.specs.Members.{Handler}
 use Rattle.reader.specs.Program.{Program, Method, below}
-use Rattle.verifier.specs.Shape.{catchClass}
-use Rattle.verifier.specs.Walk.{covers}
-use Rattle.verifier.specs.Ancestry.{lineage, Parents, below-lineage}
+use Rattle.rules.specs.Shape.{catchClass}
+use Rattle.rules.specs.Walk.{covers}
+use Rattle.rules.specs.Ancestry.{lineage, Parents, below-lineage}
 use Rattle.machine.specs.Machine.{catcher}
 use Rattle.machine.specs.declared.catching.Caught.{Caught}
 

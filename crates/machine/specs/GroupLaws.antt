@@ -3,7 +3,7 @@ use Prim.Native.Nat.{ℕ}
 use mathlib.Core.Path.{_≡_, sym, subst}
 use mathlib.Core.List.{List}
 use Rattle.reader.specs.Program.{Program}
-use Rattle.verifier.specs.Instruction.{Instr}
+use Rattle.rules.specs.Instruction.{Instr}
 use Rattle.machine.specs.Windows.{Goes}
 use Rattle.machine.specs.WindowForms.{doing}
 use Rattle.machine.specs.HeapTurns.{Steps}

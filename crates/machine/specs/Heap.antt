@@ -4,9 +4,9 @@ use mathlib.Core.Bool.{Bool, true, false, cond}
 use mathlib.Core.List.{List, [], _∷_, _++_}
 use lib.ListN.{length, getD, take, drop, set, replicate}
 use lib.Dec.{leb, eqb}
-use Rattle.reader.specs.Descriptors.{Ref, cls, arr, Desc, dint, dref, dimensions}
+use Rattle.classfiles.specs.Descriptors.{Ref, cls, arr, Desc, dint, dref, dimensions}
 use Rattle.reader.specs.Program.{Program}
-use Rattle.verifier.specs.Types.{refFits}
+use Rattle.rules.specs.Types.{refFits}
 
 -- the lent cells, of which the first `used` are in use
 pub record Heap : Type 0 where

@@ -8,11 +8,11 @@ use borrow.Author.Tests.{le-leb, lt-ltb, le-ltb}
 use lib.Dec.{eqb, ltb, leb}
 use lib.ListN.{length, getD, set}
 use Rattle.reader.specs.BuiltIns.{object, arrayStore, classCast, arrayIndex, negativeSize, nullPointer}
-use Rattle.reader.specs.Descriptors.{Ref, cls, arr, Desc, dref}
+use Rattle.classfiles.specs.Descriptors.{Ref, cls, arr, Desc, dref}
 use Rattle.reader.specs.Program.{Program, layout}
-use Rattle.verifier.specs.Instruction.{FieldRef, arraylength, iaload, aaload, iastore, aastore, getfield, putfield, new, newarray, checkcast, instanceof, ifacmp, ifnull}
-use Rattle.verifier.specs.Types.{isDint, refFits}
-use Rattle.verifier.specs.Ancestry.{lineage, Parents}
+use Rattle.rules.specs.Instruction.{FieldRef, arraylength, iaload, aaload, iastore, aastore, getfield, putfield, new, newarray, checkcast, instanceof, ifacmp, ifnull}
+use Rattle.rules.specs.Types.{isDint, refFits}
+use Rattle.rules.specs.Ancestry.{lineage, Parents}
 use Rattle.machine.specs.Integers.{negative}
 use Rattle.machine.specs.Heap.{Heap, heap, Val, empty, num, ref, cell, typeAt, elementAt, descOf, refOf, store, toCell, fromCell, isNum, valueFits}
 use Rattle.machine.specs.Machine.{stuck, Result, stopped, Here, only, popAny, popInt, withInt, withObject, withElement, push, pushOn, branch, fault, receiver}

@@ -10,9 +10,9 @@ use lib.Dec.{eqb}
 use lib.ListN.{length, getD, set, take, drop, replicate, length-append, length-drop, length-replicate, take-append-drop}
 use lib.Seq.{length-take-le, take-append-le, take-take, drop-at, drop-drop, sets-eq}
 use Rattle.kit.specs.Lists.{set-append-right, fill-step}
-use Rattle.reader.specs.Descriptors.{cls, dint, dref, dimensions, depthOf}
-use Rattle.verifier.specs.TypeWords as types
-use Rattle.verifier.specs.InstructionWords as words
+use Rattle.classfiles.specs.Descriptors.{cls, dint, dref, dimensions, depthOf}
+use Rattle.rules.specs.TypeWords as types
+use Rattle.rules.specs.InstructionWords as words
 use Rattle.machine.specs.Heap.{heap, cell, intBase, descOf, refOf, baseOf, elementBase, typeAt, store, markReady, allocate, hasRoom}
 
 -- n cells from a on made zero

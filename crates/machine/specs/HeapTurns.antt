@@ -7,7 +7,7 @@ use native.Mathlib.Omega.{arith}
 use borrow.Author.Tests.{lt-leb, le-leb, eq-eqb, ne-eqb}
 use lib.Dec.{eqb}
 use lib.ListN.{length, set}
-use Rattle.reader.specs.Descriptors.{Ref}
+use Rattle.classfiles.specs.Descriptors.{Ref}
 use Rattle.reader.specs.Program.{Program}
 use Rattle.machine.specs.Heap.{heap, Val, ref, elementAt, store, allocate, hasRoom}
 use Rattle.machine.specs.Machine.{stuck, Result, next, stopped, Here, only, goOn, pushOn, withRoom, create, resumed}

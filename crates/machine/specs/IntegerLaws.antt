@@ -17,9 +17,9 @@ use lib.Pow.{pow-pos}
 use mir.Syntax.{w32}
 use mir.Val.{ofZ, toZ}
 use Rattle.kit.specs.Pick.{side}
-use Rattle.verifier.specs.Instruction.{add, sub, mul, shl, shr, ushr, and, or, xor, quotient, remainder, eq, ne, lt, ge, gt, le}
-use Rattle.verifier.specs.InstructionWords.{opOf, divisionOf}
-use Rattle.verifier.specs.Opcodes.{testOf}
+use Rattle.rules.specs.Instruction.{add, sub, mul, shl, shr, ushr, and, or, xor, quotient, remainder, eq, ne, lt, ge, gt, le}
+use Rattle.rules.specs.InstructionWords.{opOf, divisionOf}
+use Rattle.rules.specs.Opcodes.{testOf}
 use Rattle.machine.specs.Integers.{negated, compute, divided, less, holds, negative}
 
 abbrev pub magnitudeOf : ℕ → ℕ

@@ -6,7 +6,7 @@ use lib.Dec.{ltb, eqb}
 use lib.Signed.{ltZ, quotZ, remZ, shrZ}
 use mir.Syntax.{w32}
 use mir.Val.{ofZ, toZ}
-use Rattle.verifier.specs.Instruction.{Op, add, sub, mul, shl, shr, ushr, and, or, xor, Division, quotient, remainder, Test, eq, ne, lt, ge, gt, le}
+use Rattle.rules.specs.Instruction.{Op, add, sub, mul, shl, shr, ushr, and, or, xor, Division, quotient, remainder, Test, eq, ne, lt, ge, gt, le}
 
 abbrev pub wrap : ℕ → ℕ
 wrap a = a % 2 ^ 32

@@ -5,7 +5,7 @@ use mathlib.Core.Bool.{Bool, true, false, cond}
 use mathlib.Core.List.{List, [], _∷_}
 use mathlib.Core.Option.{none, some}
 use Rattle.reader.specs.Program.{Program, method}
-use Rattle.verifier.specs.Opcodes.{body}
+use Rattle.rules.specs.Opcodes.{body}
 use Rattle.machine.specs.Heap.{Val}
 use Rattle.machine.specs.Machine.{Call, call, Here, catcher, Landing, landing, landingAt, land, callsFrom}
 use Rattle.machine.specs.Windows.{opsOf, locsOf}

@@ -5,10 +5,10 @@ use mathlib.Core.Bool.{Bool, true, false, cond}
 use mathlib.Core.List.{List, _∷_}
 use lib.Dec.{ltb}
 use Rattle.reader.specs.BuiltIns.{arrayStore}
-use Rattle.reader.specs.Descriptors.{Desc, arr}
+use Rattle.classfiles.specs.Descriptors.{Desc, arr}
 use Rattle.reader.specs.Program.{Program}
-use Rattle.verifier.specs.Instruction.{aastore}
-use Rattle.verifier.specs.Types.{isDint, refFits}
+use Rattle.rules.specs.Instruction.{aastore}
+use Rattle.rules.specs.Types.{isDint, refFits}
 use Rattle.machine.specs.Heap.{Val, num, ref, readyAt, typeAt, sizeAt, valueFits}
 use Rattle.machine.specs.Machine.{Here, fault, receiver}
 use Rattle.machine.specs.Step.{objectDesc, element, execute}

@@ -5,14 +5,14 @@ use mathlib.Core.List.{List, [], _∷_, _++_}
 use mathlib.Core.Option.{Option, none, some}
 use lib.ListN.{length, getD}
 use lib.Dec.{ltb, leb}
-use Rattle.reader.specs.Limits.{maxCalls}
+use Rattle.classfiles.specs.Limits.{maxCalls}
 use Rattle.reader.specs.BuiltIns.{nullPointer}
-use Rattle.reader.specs.Descriptors.{Ref, cls, arr, Desc, dref}
-use Rattle.reader.specs.Members.{Handler}
+use Rattle.classfiles.specs.Descriptors.{Ref, cls, arr, Desc, dref}
+use Rattle.classfiles.specs.Members.{Handler}
 use Rattle.reader.specs.Program.{Program, Method, method, below}
-use Rattle.verifier.specs.Opcodes.{body, codeOf, sizeAt}
-use Rattle.verifier.specs.Shape.{catchClass}
-use Rattle.verifier.specs.Walk.{covers}
+use Rattle.rules.specs.Opcodes.{body, codeOf, sizeAt}
+use Rattle.rules.specs.Shape.{catchClass}
+use Rattle.rules.specs.Walk.{covers}
 use Rattle.machine.specs.Heap.{Heap, Val, empty, num, ref, readyAt, hasRoom, allocate, nextRef, valueFits, paddedLocals}
 
 -- class and method, offset, the receiver of a constructor (0 for others), locals, operands with the top first

@@ -9,10 +9,10 @@ use borrow.Author.Tests.{ne-eqb, lt-ltb}
 use lib.Dec.{eqb, ltb}
 use lib.ListN.{getD}
 use Rattle.reader.specs.BuiltIns.{nullPointer}
-use Rattle.reader.specs.Descriptors.{Ref, cls, Desc, dref}
+use Rattle.classfiles.specs.Descriptors.{Ref, cls, Desc, dref}
 use Rattle.reader.specs.Program.{Program}
-use Rattle.verifier.specs.Types.{refFits}
-use Rattle.verifier.specs.Ancestry.{lineage, Parents}
+use Rattle.rules.specs.Types.{refFits}
+use Rattle.rules.specs.Ancestry.{lineage, Parents}
 use Rattle.machine.specs.Heap.{Heap, heap, Val, empty, num, ref, descOf, refOf, typeAt, readyAt, toCell, valueFits}
 use Rattle.machine.specs.Machine.{Result, Here, only, withObject, withClass, withElement, receiver, fault}
 use Rattle.machine.specs.Step.{withUnready, selfReady}

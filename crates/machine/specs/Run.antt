@@ -5,15 +5,15 @@ use mathlib.Core.List.{List, [], _∷_, map}
 use lib.ListN.{length, replicate}
 use lib.Dec.{ltb, leb, eqb}
 use Rattle.kit.specs.Claims.{fail}
-use Rattle.reader.specs.Limits.{scratchSize, maxHeap, slotCount, maxBudget}
+use Rattle.classfiles.specs.Limits.{scratchSize, maxHeap, slotCount, maxBudget}
 use Rattle.reader.specs.Verdicts.{Refusal, numbers}
 use Rattle.reader.specs.BuiltIns.{firstClass}
-use Rattle.reader.specs.Descriptors.{Desc}
+use Rattle.classfiles.specs.Descriptors.{Desc}
 use Rattle.reader.specs.Program.{Program, class, method, classCount}
 use Rattle.reader.specs.Link.{Read, refused, program}
-use Rattle.verifier.specs.Opcodes.{body}
-use Rattle.verifier.specs.Types.{isDint}
-use Rattle.verifier.specs.Verify.{readShaped}
+use Rattle.rules.specs.Opcodes.{body}
+use Rattle.rules.specs.Types.{isDint}
+use Rattle.shaping.specs.Verify.{readShaped}
 use Rattle.machine.specs.Heap.{Heap, heap, Val, num, toCell, paddedLocals}
 use Rattle.machine.specs.Machine.{call, Machine, machine, heapOf, End, returned, uncaught, outOfSteps, heapFull, depthFull, stuck, Result, next, ended, stopped}
 use Rattle.machine.specs.Step.{step}

@@ -5,13 +5,13 @@ use mathlib.Core.List.{List, [], _∷_, reverse}
 use lib.ListN.{length, set}
 use lib.Dec.{ltb, eqb}
 use Rattle.reader.specs.BuiltIns.{object, throwable, arithmetic, arrayStore, classCast, arrayIndex, negativeSize, firstClass}
-use Rattle.reader.specs.Descriptors.{cls, arr, Desc, dref}
+use Rattle.classfiles.specs.Descriptors.{cls, arr, Desc, dref}
 use Rattle.reader.specs.Program.{Program, method, methodSigs, Spot, nowhere, spot, lookup, layout}
-use Rattle.verifier.specs.Instruction.{Instr, FieldRef, MethodRef, nop, aconstnull, pop, dup, dupx1, swap, ineg, arraylength, iaload, aaload, iastore, aastore, athrow, ireturn, areturn, return, iconst, iload, aload, istore, astore, goto, new, iinc, ibin, idiv, ifint, ificmp, ifacmp, ifnull, getfield, putfield, invokevirtual, invokespecial, invokestatic, newarray, checkcast, instanceof, illegal, unresolved}
-use Rattle.verifier.specs.Resolve.{found}
-use Rattle.verifier.specs.Opcodes.{body, codeOf, sizeAt, instruction}
-use Rattle.verifier.specs.Types.{isDint, refFits}
-use Rattle.verifier.specs.Rule.{returnsInt, returnsRef, returnsVoid}
+use Rattle.rules.specs.Instruction.{Instr, FieldRef, MethodRef, nop, aconstnull, pop, dup, dupx1, swap, ineg, arraylength, iaload, aaload, iastore, aastore, athrow, ireturn, areturn, return, iconst, iload, aload, istore, astore, goto, new, iinc, ibin, idiv, ifint, ificmp, ifacmp, ifnull, getfield, putfield, invokevirtual, invokespecial, invokestatic, newarray, checkcast, instanceof, illegal, unresolved}
+use Rattle.rules.specs.Resolve.{found}
+use Rattle.rules.specs.Opcodes.{body, codeOf, sizeAt, instruction}
+use Rattle.rules.specs.Types.{isDint, refFits}
+use Rattle.rules.specs.Rule.{returnsInt, returnsRef, returnsVoid}
 use Rattle.machine.specs.Integers.{compute, divided, holds, negated, negative, wrap}
 use Rattle.machine.specs.Heap.{Heap, Val, empty, num, ref, null, cell, typeAt, readyAt, elementAt, store, markReady, toCell, fromCell, isRef, valueFits}
 use Rattle.machine.specs.Heap.{sizeAt as countAt}

@@ -9,16 +9,16 @@ use native.Mathlib.Omega.{arith}
 use borrow.Author.Tests.{ne-eqb, eqb-true, eq-eqb}
 use lib.Dec.{eqb}
 use lib.ListN.{getD}
-use Rattle.reader.specs.Descriptors.{Ref, cls, arr, Desc, dint, dref}
+use Rattle.classfiles.specs.Descriptors.{Ref, cls, arr, Desc, dint, dref}
 use Rattle.reader.specs.Program.{Program, below}
-use Rattle.verifier.specs.Types.{ini, refFits, descFits, fits, isDint}
-use Rattle.verifier.specs.TypeWords.{nest}
-use Rattle.verifier.specs.TypeWords as types
-use Rattle.verifier.specs.InstructionWords as words
-use Rattle.verifier.specs.Ancestry.{lineage, Parents, fits-lineage}
+use Rattle.rules.specs.Types.{ini, refFits, descFits, fits, isDint}
+use Rattle.rules.specs.TypeWords.{nest}
+use Rattle.rules.specs.TypeWords as types
+use Rattle.rules.specs.InstructionWords as words
+use Rattle.rules.specs.Ancestry.{lineage, Parents, fits-lineage}
 use Rattle.machine.specs.Heap.{heap, ref, cell, intBase, descOf, refOf, typeAt, refersTo, Heap, Val, empty, num, valueFits, isNum, isRef, toCell, fromCell}
-use Rattle.verifier.specs.TypeWords as types
-use Rattle.verifier.specs.InstructionWords as words
+use Rattle.rules.specs.TypeWords as types
+use Rattle.rules.specs.InstructionWords as words
 use Rattle.kit.specs.Bools.{not-so}
 
 -- a slot's tag and cell

@@ -10,7 +10,7 @@ use lib.Dec.{eqb, ltb, leb}
 use lib.ListN.{length, getD, set, length-set}
 use Rattle.reader.specs.Program.{Program}
 use Rattle.reader.specs.BuiltIns.{arithmetic}
-use Rattle.verifier.specs.Instruction.{Instr, swap, dupx1, Op, add, Division, Test, nop, aconstnull, pop, dup, ineg, iconst, iload, aload, istore, astore, goto, iinc, ibin, idiv, ifint, ificmp}
+use Rattle.rules.specs.Instruction.{Instr, swap, dupx1, Op, add, Division, Test, nop, aconstnull, pop, dup, ineg, iconst, iload, aload, istore, astore, goto, iinc, ibin, idiv, ifint, ificmp}
 use Rattle.machine.specs.Integers.{compute, divided, holds, negated, wrap}
 use Rattle.machine.specs.Heap.{Val, empty, num, ref, isRef}
 use Rattle.machine.specs.Machine.{stuck, Result, stopped, Here, only, popAny, popInt, withInt, localAt, goOn, push, branch, setLocals, fault}

@@ -10,7 +10,7 @@ use lib.Dec.{eqb, ltb}
 use lib.ListN.{length, getD, set}
 use lib.Seq.{getD-set-same, getD-set-other}
 use Rattle.kit.specs.Pick.{side}
-use Rattle.verifier.specs.Opcodes.{body}
+use Rattle.rules.specs.Opcodes.{body}
 use Rattle.reader.specs.Program.{Program}
 use Rattle.machine.specs.Heap.{heap, Val, empty}
 use Rattle.machine.specs.Machine.{heapFull, depthFull, stuck, End, Result, next, stopped, Here, methodAt, resumed, goOn, push, branch, setLocals, fault}

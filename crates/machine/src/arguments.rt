@@ -3,12 +3,12 @@ ghost use mathlib.Core.Path.{_≡_};
 ghost use Prim.Native.Nat.{_+_, _<_, _≤_};
 ghost use lib.ListN.{length};
 ghost use Rattle.kit.specs.Scan.{allOf};
-ghost use Rattle.verifier.specs.Ancestry.{lineage};
+ghost use Rattle.rules.specs.Ancestry.{lineage};
 ghost use Rattle.machine.specs.Arguments.{argFits};
 use crate::values::Value;
 use crate::values::{self};
-use verifier::types::Kin;
-use verifier::types::Ty;
+use rules::types::Kin;
+use rules::types::Ty;
 
 // The i-th of those above the first `left` operands; its type is in the i-th word from `of` on.
 fn one_fits(

@@ -1,13 +1,13 @@
 // The handler of a method that catches a thrown class.
 ghost use mathlib.Core.Path.{_≡_};
 ghost use Prim.Native.Nat.{_+_, _*_, _^_, _<_, _≤_};
-ghost use Rattle.reader.specs.Attributes.{handlersFrom};
-ghost use Rattle.verifier.specs.Ancestry.{lineage};
-ghost use Rattle.verifier.specs.Walk.{covers};
+ghost use Rattle.classfiles.specs.Attributes.{handlersFrom};
+ghost use Rattle.rules.specs.Ancestry.{lineage};
+ghost use Rattle.rules.specs.Walk.{covers};
 ghost use Rattle.machine.specs.Catching.{namedIn, caughtIn, entryAt, catchesBy, caughtOf, catcherBy};
-use reader::items::u2_at;
-use verifier::types::Kin;
-use verifier::types::{self};
+use rules::types::Kin;
+use rules::types::{self};
+use texts::items::u2_at;
 
 // A method's exception table: its entries' number and the first one's place in the bundle; the method's class, and how many there are.
 pub struct Table {

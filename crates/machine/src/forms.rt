@@ -2,9 +2,9 @@
 ghost use mathlib.Core.Path.{_≡_};
 ghost use Prim.Native.Nat.{_+_, _<_, _≤_};
 ghost use lib.ListN.{length};
-ghost use Rattle.verifier.specs.Instruction.{nop, aconstnull, pop, dup, dupx1, swap, ineg, iconst, iload, aload, istore, astore, goto, iinc, ibin, idiv, ifint, ificmp};
-ghost use Rattle.verifier.specs.Opcodes.{testOf};
-ghost use Rattle.verifier.specs.InstructionWords.{opOf, divisionOf};
+ghost use Rattle.rules.specs.Instruction.{nop, aconstnull, pop, dup, dupx1, swap, ineg, iconst, iload, aload, istore, astore, goto, iinc, ibin, idiv, ifint, ificmp};
+ghost use Rattle.rules.specs.Opcodes.{testOf};
+ghost use Rattle.rules.specs.InstructionWords.{opOf, divisionOf};
 ghost use Rattle.machine.specs.Windows.{Sized, Goes};
 ghost use Rattle.machine.specs.WindowForms.{doing, onTop, twoInts, inLocal, turnedWords, turnedTags};
 use crate::integers;

@@ -1,9 +1,9 @@
 // Instructions by their groups.
 ghost use Prim.Native.Nat.{_≤_};
 ghost use lib.ListN.{length};
-ghost use Rattle.reader.specs.Limits.{maxHeap};
-ghost use Rattle.verifier.specs.InstructionWords.{plainOf, branchOf, localOf, stackOf};
-ghost use Rattle.verifier.specs.Ancestry.{Parents};
+ghost use Rattle.classfiles.specs.Limits.{maxHeap};
+ghost use Rattle.rules.specs.InstructionWords.{plainOf, branchOf, localOf, stackOf};
+ghost use Rattle.rules.specs.Ancestry.{Parents};
 ghost use Rattle.machine.specs.Windows.{Sized, Goes};
 ghost use Rattle.machine.specs.WindowForms.{doing};
 ghost use Rattle.machine.specs.HeapTurns.{Steps};
@@ -11,11 +11,11 @@ use crate::forms;
 use crate::memory;
 use crate::window::Place;
 use crate::window::Turn;
-use verifier::instruction::Branch;
-use verifier::instruction::Local;
-use verifier::instruction::Plain;
-use verifier::instruction::Stack;
-use verifier::types::Kin;
+use rules::instruction::Branch;
+use rules::instruction::Local;
+use rules::instruction::Plain;
+use rules::instruction::Stack;
+use rules::types::Kin;
 
 pub fn on_local(w: &mut [u32], g: &mut [u8], c: Place, i: Local) -> Turn
     requires { ⌜ Sized c (now w) (now g) ⌝ }

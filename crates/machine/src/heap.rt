@@ -6,7 +6,7 @@ ghost use mathlib.Core.List.{[], _∷_, _++_};
 ghost use Prim.Native.Nat.{_+_, _≤_};
 ghost use lib.Dec.{eqb};
 ghost use lib.ListN.{length, getD, set, take, drop};
-ghost use Rattle.reader.specs.Limits.{maxHeap};
+ghost use Rattle.classfiles.specs.Limits.{maxHeap};
 ghost use Rattle.machine.specs.Heap.{heap, refOf, elementAt, hasRoom, allocate};
 ghost use Rattle.machine.specs.HeapLaws.{cleared};
 

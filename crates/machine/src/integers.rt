@@ -2,9 +2,9 @@
 ghost use mathlib.Core.Path.{_≡_};
 ghost use mathlib.Core.Bool.{not};
 ghost use Prim.Native.Nat.{_<_, _≤_, _^_};
-ghost use Rattle.verifier.specs.Instruction.{add, sub, mul, shl, shr, ushr, and, or, xor, quotient, remainder};
-ghost use Rattle.verifier.specs.InstructionWords.{opOf, divisionOf};
-ghost use Rattle.verifier.specs.Opcodes.{testOf};
+ghost use Rattle.rules.specs.Instruction.{add, sub, mul, shl, shr, ushr, and, or, xor, quotient, remainder};
+ghost use Rattle.rules.specs.InstructionWords.{opOf, divisionOf};
+ghost use Rattle.rules.specs.Opcodes.{testOf};
 ghost use Rattle.machine.specs.Integers.{negated, compute, divided, less, holds, negative};
 ghost use Rattle.machine.specs.IntegerLaws.{magnitudeOf, biasedOf};
 

@@ -3,11 +3,11 @@ ghost use mathlib.Core.Path.{_≡_};
 ghost use mathlib.Core.Bool.{cond, Bool·beq};
 ghost use Prim.Native.Nat.{_+_, _<_, _≤_};
 ghost use lib.ListN.{length};
-ghost use Rattle.reader.specs.Limits.{maxHeap};
+ghost use Rattle.classfiles.specs.Limits.{maxHeap};
 ghost use Rattle.reader.specs.Program.{layout};
-ghost use Rattle.verifier.specs.Instruction.{arraylength, iaload, aaload, iastore, aastore, getfield, putfield, new, newarray, checkcast, instanceof, ifacmp, ifnull};
-ghost use Rattle.verifier.specs.InstructionWords as words;
-ghost use Rattle.verifier.specs.Ancestry.{lineage, Parents};
+ghost use Rattle.rules.specs.Instruction.{arraylength, iaload, aaload, iastore, aastore, getfield, putfield, new, newarray, checkcast, instanceof, ifacmp, ifnull};
+ghost use Rattle.rules.specs.InstructionWords as words;
+ghost use Rattle.rules.specs.Ancestry.{lineage, Parents};
 ghost use Rattle.reader.specs.BuiltIns.{object};
 ghost use Rattle.machine.specs.Heap.{refOf, elementAt, toCell};
 ghost use Rattle.machine.specs.ValueLaws.{valueOf};
@@ -24,9 +24,9 @@ use crate::values::{self};
 use crate::window::Place;
 use crate::window::Turn;
 use crate::window::{self};
-use verifier::instruction::Field;
-use verifier::types::Kin;
-use verifier::types::Ty;
+use rules::instruction::Field;
+use rules::types::Kin;
+use rules::types::Ty;
 
 // Whether v is a receiver of that type: stuck where it does not fit, a fault where it is null.
 fn reach(t: &[u8], kin: Kin, cells: &[u32], c: Place, v: Value, asked: RunType) -> Turn

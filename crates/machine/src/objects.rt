@@ -1,6 +1,6 @@
 // What instructions ask of the objects that values refer to. How much of the heap is used does not matter to it.
 ghost use mathlib.Core.Path.{_≡_};
-ghost use Rattle.verifier.specs.Ancestry.{lineage};
+ghost use Rattle.rules.specs.Ancestry.{lineage};
 ghost use Rattle.machine.specs.Heap.{heap, refOf};
 ghost use Rattle.machine.specs.Step.{selfReady};
 ghost use Rattle.machine.specs.ValueLaws.{valueOf};
@@ -9,7 +9,7 @@ use crate::heap::{self};
 use crate::values::RunType;
 use crate::values::Value;
 use crate::values::{self};
-use verifier::types::Kin;
+use rules::types::Kin;
 
 // Null, or a ready object.
 pub fn is_usable(cells: &[u32], v: Value) -> bool

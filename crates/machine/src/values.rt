@@ -2,16 +2,16 @@
 ghost use mathlib.Core.Path.{_≡_};
 ghost use Prim.Native.Nat.{_+_, _<_};
 ghost use lib.ListN.{getD};
-ghost use Rattle.reader.specs.Descriptors.{arr};
-ghost use Rattle.verifier.specs.Types.{isDint, refFits, descFits};
-ghost use Rattle.verifier.specs.InstructionWords as words;
-ghost use Rattle.verifier.specs.Ancestry.{lineage};
+ghost use Rattle.classfiles.specs.Descriptors.{arr};
+ghost use Rattle.rules.specs.Types.{isDint, refFits, descFits};
+ghost use Rattle.rules.specs.InstructionWords as words;
+ghost use Rattle.rules.specs.Ancestry.{lineage};
 ghost use Rattle.machine.specs.Heap.{heap, empty, num, ref, descOf, refOf, toCell, fromCell, isNum, isRef, refersTo, valueFits};
 ghost use Rattle.machine.specs.ValueLaws.{headerBase, valueOf};
 use crate::heap::{self};
-use verifier::types::Kin;
-use verifier::types::Ty;
-use verifier::types::{self};
+use rules::types::Kin;
+use rules::types::Ty;
+use rules::types::{self};
 
 // A type as a header has it: a class or int's base, and brackets. Int itself is its base without brackets.
 pub struct RunType {

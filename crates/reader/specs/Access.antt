@@ -13,26 +13,26 @@ use borrow.Author.Tests.{eq-eqb, ne-eqb, ltb-true}
 use Rattle.kit.specs.Bools.{not-so}
 use Rattle.kit.specs.Pick.{side}
 use Rattle.kit.specs.Words.{word, word-part, word-take}
-use Rattle.reader.specs.Limits.{maxFields, maxMethods, maxPoolCount}
-use Rattle.reader.specs.Reading.{u2At, u4At, part}
-use Rattle.reader.specs.Names.{Text}
-use Rattle.reader.specs.Descriptors.{Desc, fieldTypeAt}
-use Rattle.reader.specs.Shapes.{inside}
-use Rattle.reader.specs.Pool.{Constant, absent, utf8, integer, classAt, fieldref, methodref, nameAndType, constantAt, entry, text}
-use Rattle.reader.specs.Table.{poolIn, entryIn, constantOf, Inside, IsText, entry-none, entry-past, entry-in}
-use Rattle.reader.specs.Attributes.{memberOf}
-use Rattle.reader.specs.Bundle.{ClassFile}
+use Rattle.classfiles.specs.Limits.{maxFields, maxMethods, maxPoolCount}
+use Rattle.texts.specs.Reading.{u2At, u4At, part}
+use Rattle.texts.specs.Names.{Text}
+use Rattle.classfiles.specs.Descriptors.{Desc, fieldTypeAt}
+use Rattle.classfiles.specs.Shapes.{inside}
+use Rattle.classfiles.specs.Pool.{Constant, absent, utf8, integer, classAt, fieldref, methodref, nameAndType, constantAt, entry, text}
+use Rattle.classfiles.specs.Table.{poolIn, entryIn, constantOf, Inside, IsText, entry-none, entry-past, entry-in}
+use Rattle.classfiles.specs.Attributes.{memberOf}
+use Rattle.classfiles.specs.Bundle.{ClassFile}
 use Rattle.reader.specs.BuiltIns.{BuiltIn, builtIns, firstClass}
 use Rattle.reader.specs.Program.{Program, Signature, Field, Class, noField, class, classCount, numberIn, classNames, fieldOf, classOf, classesFrom, builtInsFrom, programOf, descOr, ownTypes, layoutTo, layout, sameSignature, indexOf, Spot, nowhere, spot, seek, lookup}
-use Rattle.reader.specs.Blocks.{blockSize, poolWord, poolOf, rowIn, classIn}
+use Rattle.classfiles.specs.Blocks.{blockSize, poolWord, poolOf, rowIn, classIn}
 use Rattle.reader.specs.Numbers.{part-block}
 use Rattle.reader.specs.Linked.{filesIn}
 use Rattle.reader.specs.MemberRows.{blockAt, rowsWord, rowStart, rowCount, rowAt, rowSig}
 use Rattle.reader.specs.Lookup.{ownSpot, class-at, class-past, class-count, built-in-class}
 use Rattle.reader.specs.MemberAt.{field-at, fields-count}
 use Rattle.reader.specs.TypeCodes.{descOf, numberBy}
-use Rattle.reader.specs.declared.pool.Span.{Span}
-use Rattle.reader.specs.declared.pool.Entry.{Entry}
+use Rattle.classfiles.specs.declared.pool.Span.{Span}
+use Rattle.classfiles.specs.declared.pool.Entry.{Entry}
 
 -- what phase A lets pass: of pool entries, fields and methods
 pub record Limited (n : ℕ) (t : List ℕ) : Type 0 where

@@ -1,7 +1,7 @@
 -- The built-in classes, all of java/lang, by their numbers; each has only `<init>()V`.
 use Prim.Native.Nat.{ℕ}
 use mathlib.Core.List.{List, [], _∷_, _++_}
-use Rattle.reader.specs.Names.{Text}
+use Rattle.texts.specs.Names.{Text}
 
 abbrev javaLang : Text → Text
 javaLang t = 106 ∷ 97 ∷ 118 ∷ 97 ∷ 47 ∷ 108 ∷ 97 ∷ 110 ∷ 103 ∷ 47 ∷ t

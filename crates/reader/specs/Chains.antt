@@ -9,17 +9,17 @@ use lib.ListN.{length, getD, take, drop}
 use borrow.Author.Tests.{eq-eqb, ne-eqb}
 use Rattle.kit.specs.Lists.{getD-append-right}
 use Rattle.kit.specs.Words.{word}
-use Rattle.reader.specs.Reading.{u2At}
-use Rattle.reader.specs.Names.{Text}
-use Rattle.reader.specs.Pool.{classText}
-use Rattle.reader.specs.Table.{IsText}
-use Rattle.reader.specs.Bundle.{ClassFile, Super, zero′, named}
+use Rattle.texts.specs.Reading.{u2At}
+use Rattle.texts.specs.Names.{Text}
+use Rattle.classfiles.specs.Pool.{classText}
+use Rattle.classfiles.specs.Table.{IsText}
+use Rattle.classfiles.specs.Bundle.{ClassFile, Super, zero′, named}
 use Rattle.reader.specs.BuiltIns.{builtIns, firstClass}
 use Rattle.reader.specs.Program.{Program, Class, noClass, class, numberIn, classNames, parentNumber, classOf, classesFrom, builtInsFrom, programOf, upTo}
-use Rattle.reader.specs.Blocks.{blockSize, thisWord, poolOf, superIn, classIn, classesIn}
-use Rattle.reader.specs.BlockWords.{length-listed}
+use Rattle.classfiles.specs.Blocks.{blockSize, thisWord, poolOf, superIn, classIn, classesIn}
+use Rattle.classfiles.specs.BlockWords.{length-listed}
 use Rattle.reader.specs.Numbers.{classAt, listed-at, part-block}
-use Rattle.reader.specs.declared.pool.Span.{Span}
+use Rattle.classfiles.specs.declared.pool.Span.{Span}
 
 -- the number that a super has, `none` where there is no super
 abbrev pub superOr : (Text → ℕ) → ℕ → Super → ℕ

@@ -9,15 +9,15 @@ use lib.ListN.{length, getD, set, take, drop, length-append, length-set, length-
 use lib.Seq.{take-all, take-take, drop-drop, take-append-le, take-set-le, drop-set-lt, getD-set-same, getD-set-other}
 use borrow.Author.Tests.{eq-eqb, ne-eqb, lt-ltb, le-ltb, not-true, not-false}
 use Rattle.kit.specs.Bools.{not-so}
-use Rattle.reader.specs.Limits.{maxParameters, maxDimensions}
-use Rattle.reader.specs.Reading.{Res, ok, bad, andThen, pre}
-use Rattle.reader.specs.Names.{Text, className}
-use Rattle.reader.specs.Answers.{resAs, is-ok, is-bad, no-ok, no-bad, as-bad}
-use Rattle.reader.specs.Descriptors.{Ref, cls, arr, Desc, dint, dref, MethodType, methodType, namedAt, baseAt, typeAt, paramsAt, resultsAt, whole, fieldTypeAt, methodTypeAt, asRef, classTypeAt, knownRef, knownDesc}
-use Rattle.reader.specs.Shapes.{seen}
-use Rattle.reader.specs.Blocks.{listed, classesIn}
-use Rattle.reader.specs.BlockWords.{listed-same, listed-next, length-listed}
-use Rattle.reader.specs.Loops.{pre-nil, pre-pre}
+use Rattle.classfiles.specs.Limits.{maxParameters, maxDimensions}
+use Rattle.texts.specs.Reading.{Res, ok, bad, andThen, pre}
+use Rattle.texts.specs.Names.{Text, className}
+use Rattle.texts.specs.Answers.{resAs, is-ok, is-bad, no-ok, no-bad, as-bad}
+use Rattle.classfiles.specs.Descriptors.{Ref, cls, arr, Desc, dint, dref, MethodType, methodType, namedAt, baseAt, typeAt, paramsAt, resultsAt, whole, fieldTypeAt, methodTypeAt, asRef, classTypeAt, knownRef, knownDesc}
+use Rattle.classfiles.specs.Shapes.{seen}
+use Rattle.classfiles.specs.Blocks.{listed, classesIn}
+use Rattle.classfiles.specs.BlockWords.{listed-same, listed-next, length-listed}
+use Rattle.classfiles.specs.Loops.{pre-nil, pre-pre}
 use Rattle.reader.specs.Program.{Program, numberIn, classNames, descOr, methodTypeOr, classCount, programOf}
 use Rattle.reader.specs.Link.{allKnown}
 use Rattle.reader.specs.BuiltIns.{firstClass}
@@ -25,7 +25,7 @@ use Rattle.reader.specs.Numbers.{listed-at}
 use Rattle.reader.specs.Chains.{counted}
 use Rattle.reader.specs.Linked.{parentsAt, filesIn, length-program}
 use Rattle.reader.specs.TypeCodes.{baseOf, nested, descOf, refIn, refOf, resultOf, knownAll, typesOf, numberBy, codesIn, resultAt, paramsIn, resultsIn, Aside, Kept, ParamsRead, ParamsKept, Settled, Described}
-use Rattle.reader.specs.declared.items.Got.{Got}
+use Rattle.texts.specs.declared.items.Got.{Got}
 use Rattle.reader.specs.declared.types.Listed.{Listed}
 
 -- ---- codes

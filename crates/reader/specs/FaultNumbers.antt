@@ -6,14 +6,14 @@ use mathlib.Core.Bool.{Bool, true, false, cond}
 use native.Mathlib.Omega.{arith}
 use lib.ListN.{length}
 use Rattle.kit.specs.Claims.{Claim, claim, Ruling, pass, fail, verdict, then}
-use Rattle.reader.specs.Limits.{maxDimensions, maxStackLimit, maxLocalsLimit, maxTableEntries, maxClasses, maxFields, maxMethods}
+use Rattle.classfiles.specs.Limits.{maxDimensions, maxStackLimit, maxLocalsLimit, maxTableEntries, maxClasses, maxFields, maxMethods}
 use Rattle.reader.specs.Verdicts.{fault, Refusal, inClass, inBundle, Verdict, each}
-use Rattle.reader.specs.Reading.{Res, ok, bad, andThen, pre, many, sumAt, num2At, num4At, skipAt, shortAt, u2, u4}
-use Rattle.reader.specs.Names.{Text}
-use Rattle.reader.specs.Descriptors.{Desc, dint, dref, MethodType, namedAt, baseAt, typeAt, paramsAt, resultsAt, whole, fieldTypeAt, methodTypeAt, asRef, classTypeAt, semicolon}
-use Rattle.reader.specs.Pool.{Constant, absent, utf8, integer, classAt, fieldref, methodref, nameAndType, entry, text, resFault, nameFault, pairFault, constantFault, entryFault, utf8At, fixedAt, entryAt, judgedAt, checkedAt, tagsAt, poolAt, utf8IndexAt, classIndexAt}
-use Rattle.reader.specs.Members.{another, innerAt, innersAt, codeAt, handlerAt, tableAt, bodyAt, attributeAt, attributesAt, accessAt, nameAt, methodTypeOk, descriptorAt, memberAt, Member}
-use Rattle.reader.specs.Bundle.{ClassFile, magicAt, versionAt, classAccessAt, thisAt, superAt, interfacesAt, membersAt, classFileAt, classFilesAt, bundleAt}
+use Rattle.texts.specs.Reading.{Res, ok, bad, andThen, pre, many, sumAt, num2At, num4At, skipAt, shortAt, u2, u4}
+use Rattle.texts.specs.Names.{Text}
+use Rattle.classfiles.specs.Descriptors.{Desc, dint, dref, MethodType, namedAt, baseAt, typeAt, paramsAt, resultsAt, whole, fieldTypeAt, methodTypeAt, asRef, classTypeAt, semicolon}
+use Rattle.classfiles.specs.Pool.{Constant, absent, utf8, integer, classAt, fieldref, methodref, nameAndType, entry, text, resFault, nameFault, pairFault, constantFault, entryFault, utf8At, fixedAt, entryAt, judgedAt, checkedAt, tagsAt, poolAt, utf8IndexAt, classIndexAt}
+use Rattle.classfiles.specs.Members.{another, innerAt, innersAt, codeAt, handlerAt, tableAt, bodyAt, attributeAt, attributesAt, accessAt, nameAt, methodTypeOk, descriptorAt, memberAt, Member}
+use Rattle.classfiles.specs.Bundle.{ClassFile, magicAt, versionAt, classAccessAt, thisAt, superAt, interfacesAt, membersAt, classFileAt, classFilesAt, bundleAt}
 use Rattle.reader.specs.Program.{Program, programOf}
 use Rattle.reader.specs.Link.{uniqueClass, superClaims, chainClaims, fieldClaims, methodClaims, memberClaims, linked, Read, refused, program, orRefused, readAs, readBundle}
 

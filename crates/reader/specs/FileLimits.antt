@@ -10,19 +10,19 @@ use borrow.Author.Tests.{ltb-false, eqb-false}
 use Rattle.kit.specs.Lists.{eqList, length-part}
 use Rattle.kit.specs.Scan.{firstNot}
 use Rattle.kit.specs.Words.{word}
-use Rattle.reader.specs.Limits.{maxStackLimit, maxLocalsLimit, maxCode, maxTableEntries, maxPoolCount, maxFields, maxMethods, maxParameters, maxClasses, maxBundle, maxDimensions}
-use Rattle.reader.specs.Reading.{Res, ok, bad, andThen, pre, many, sumAt, u2At, u4At, num2At, num4At, skipAt, shortAt, u2, u4, part}
-use Rattle.reader.specs.Ends.{Holds, holds-of, then-holds, any-holds, cond-holds, skip-holds}
-use Rattle.reader.specs.Names.{Text, Code, className, isInit}
-use Rattle.reader.specs.Descriptors.{MethodType, semicolon, methodTypeAt}
-use Rattle.reader.specs.Shapes.{Arity, arity, seen, namedShape, baseShape, typeShape, paramsShape, resultsShape, methodShape, method-shape}
-use Rattle.reader.specs.Pool.{Constant, text, constants, entryFault, checkedAt, judgedAt, entryAt, tagsAt, poolAt, utf8IndexAt}
-use Rattle.reader.specs.Table.{poolIn, length-pool, length-constants}
-use Rattle.reader.specs.Members.{Found, none, once, twice, another, Handler, Body, Member, innersAt, codeAt, handlerAt, tableAt, bodyAt, attributeAt, accessAt, nameAt, slots, methodTypeOk, descriptorAt, attributesAt, memberAt}
-use Rattle.reader.specs.Attributes.{foundOf, handlersFrom, tableFrom, bodyOf, memberOf}
-use Rattle.reader.specs.Bundle.{ClassFile, magicAt, versionAt, classAccessAt, thisAt, superAt, interfacesAt, membersAt, classFileAt, classFilesAt, bundleAt}
+use Rattle.classfiles.specs.Limits.{maxStackLimit, maxLocalsLimit, maxCode, maxTableEntries, maxPoolCount, maxFields, maxMethods, maxParameters, maxClasses, maxBundle, maxDimensions}
+use Rattle.texts.specs.Reading.{Res, ok, bad, andThen, pre, many, sumAt, u2At, u4At, num2At, num4At, skipAt, shortAt, u2, u4, part}
+use Rattle.texts.specs.Ends.{Holds, holds-of, then-holds, any-holds, cond-holds, skip-holds}
+use Rattle.texts.specs.Names.{Text, Code, className, isInit}
+use Rattle.classfiles.specs.Descriptors.{MethodType, semicolon, methodTypeAt}
+use Rattle.classfiles.specs.Shapes.{Arity, arity, seen, namedShape, baseShape, typeShape, paramsShape, resultsShape, methodShape, method-shape}
+use Rattle.classfiles.specs.Pool.{Constant, text, constants, entryFault, checkedAt, judgedAt, entryAt, tagsAt, poolAt, utf8IndexAt}
+use Rattle.classfiles.specs.Table.{poolIn, length-pool, length-constants}
+use Rattle.classfiles.specs.Members.{Found, none, once, twice, another, Handler, Body, Member, innersAt, codeAt, handlerAt, tableAt, bodyAt, attributeAt, accessAt, nameAt, slots, methodTypeOk, descriptorAt, attributesAt, memberAt}
+use Rattle.classfiles.specs.Attributes.{foundOf, handlersFrom, tableFrom, bodyOf, memberOf}
+use Rattle.classfiles.specs.Bundle.{ClassFile, magicAt, versionAt, classAccessAt, thisAt, superAt, interfacesAt, membersAt, classFileAt, classFilesAt, bundleAt}
 use Rattle.reader.specs.Program.{methodTypeOr}
-use Rattle.reader.specs.Blocks.{blockSize, poolWord, methodRows, poolOf, rowIn, classIn, classesIn}
+use Rattle.classfiles.specs.Blocks.{blockSize, poolWord, methodRows, poolOf, rowIn, classIn, classesIn}
 use Rattle.reader.specs.Numbers.{classAt}
 use Rattle.reader.specs.Chains.{counted, there}
 use Rattle.reader.specs.MemberRows.{blockAt, rowsWord, rowCount, rowAt}

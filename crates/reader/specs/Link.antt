@@ -6,10 +6,10 @@ use lib.ListN.{length, getD}
 use lib.Dec.{ltb, eqb}
 use Rattle.kit.specs.Claims.{Claim, claim, pass, fail, verdict, then}
 use Rattle.reader.specs.Verdicts.{fault, Refusal, inClass, inBundle, Verdict, each}
-use Rattle.reader.specs.Reading.{Res, ok, bad}
-use Rattle.reader.specs.Descriptors.{Desc, knownDesc}
-use Rattle.reader.specs.Members.{Member}
-use Rattle.reader.specs.Bundle.{ClassFile, Super, zero′, named, bundleAt}
+use Rattle.texts.specs.Reading.{Res, ok, bad}
+use Rattle.classfiles.specs.Descriptors.{Desc, knownDesc}
+use Rattle.classfiles.specs.Members.{Member}
+use Rattle.classfiles.specs.Bundle.{ClassFile, Super, zero′, named, bundleAt}
 use Rattle.reader.specs.BuiltIns.{object, firstClass}
 use Rattle.reader.specs.Program.{Program, noField, class, method, classCount, classNames, numberIn, programOf, fieldSigs, methodSigs, indexOf, Spot, nowhere, spot, lookup, below}
 

@@ -16,12 +16,12 @@ use Rattle.kit.specs.Pick.{side}
 use Rattle.kit.specs.Scan.{firstNot}
 use Rattle.kit.specs.Words.{word, putWord, word-part, word-out, word-same, word-other, word-take}
 use Rattle.reader.specs.Verdicts.{fault, Refusal, inClass, Verdict, each}
-use Rattle.reader.specs.Bundle.{ClassFile, Super, zero′, named}
+use Rattle.classfiles.specs.Bundle.{ClassFile, Super, zero′, named}
 use Rattle.reader.specs.BuiltIns.{BuiltIn, builtIns, firstClass, object}
 use Rattle.reader.specs.Program.{Program, Class, noClass, class, classNames, numberIn, classesFrom, builtInsFrom, programOf, upTo, below}
 use Rattle.reader.specs.Link.{uniqueClass, superKnown, superClaims, chainClaims}
-use Rattle.reader.specs.Blocks.{blockSize, startWord, classIn, classesIn}
-use Rattle.reader.specs.BlockWords.{take-put, listed-same}
+use Rattle.classfiles.specs.Blocks.{blockSize, startWord, classIn, classesIn}
+use Rattle.classfiles.specs.BlockWords.{take-put, listed-same}
 use Rattle.reader.specs.Numbers.{classAt}
 use Rattle.reader.specs.Chains.{superOr, superAs, uniqueAt, knownAt, rootedAt, reach-is, counted, there}
 use Rattle.reader.specs.declared.link.Linked.{Linked}

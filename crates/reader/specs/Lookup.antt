@@ -9,12 +9,12 @@ use lib.ListN.{length, getD, List·getD-eq-default}
 use borrow.Author.Tests.{eq-eqb, ne-eqb}
 use Rattle.kit.specs.Lists.{eqList, getD-append-right}
 use Rattle.kit.specs.Words.{word}
-use Rattle.reader.specs.Names.{Text, init}
-use Rattle.reader.specs.Attributes.{memberOf}
-use Rattle.reader.specs.Bundle.{ClassFile}
+use Rattle.texts.specs.Names.{Text, init}
+use Rattle.classfiles.specs.Attributes.{memberOf}
+use Rattle.classfiles.specs.Bundle.{ClassFile}
 use Rattle.reader.specs.BuiltIns.{builtIns, firstClass}
 use Rattle.reader.specs.Program.{Signature, Field, Method, Program, Class, noClass, builtInMethod, class, numberIn, classNames, fieldOf, methodOf, classOf, classesFrom, builtInsFrom, programOf, sameSignature, indexOf, fieldSigs, methodSigs, Spot, nowhere, spot, seek, lookup}
-use Rattle.reader.specs.Blocks.{fieldRows, methodRows, fieldCount, methodCount, poolOf, rowIn, rowsIn, classIn}
+use Rattle.classfiles.specs.Blocks.{fieldRows, methodRows, fieldCount, methodCount, poolOf, rowIn, rowsIn, classIn}
 use Rattle.reader.specs.Numbers.{classAt, map-listed}
 use Rattle.reader.specs.Chains.{counted, there}
 use Rattle.reader.specs.Linked.{filesIn, files-front, length-program}

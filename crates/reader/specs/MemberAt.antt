@@ -8,21 +8,21 @@ use lib.Dec.{eqb}
 use lib.ListN.{length, getD, take, drop, List·getD-eq-default}
 use borrow.Author.Tests.{not-true, not-false}
 use Rattle.kit.specs.Words.{word}
-use Rattle.reader.specs.Reading.{u2At}
-use Rattle.reader.specs.Names.{Text}
-use Rattle.reader.specs.Table.{IsText}
-use Rattle.reader.specs.Attributes.{memberOf}
+use Rattle.texts.specs.Reading.{u2At}
+use Rattle.texts.specs.Names.{Text}
+use Rattle.classfiles.specs.Table.{IsText}
+use Rattle.classfiles.specs.Attributes.{memberOf}
 use Rattle.reader.specs.BuiltIns.{firstClass}
 use Rattle.reader.specs.Program.{Signature, signature, Field, Method, Program, Class, noField, noMethod, builtInMethod, class, method, numberIn, classNames, fieldOf, methodOf, classOf, programOf, methodSigs, Spot, lookup}
 use Rattle.reader.specs.Link.{agrees}
-use Rattle.reader.specs.Blocks.{fieldRows, methodRows, fieldCount, methodCount, listed, poolOf, rowIn, rowsIn, classIn}
-use Rattle.reader.specs.BlockWords.{length-listed}
+use Rattle.classfiles.specs.Blocks.{fieldRows, methodRows, fieldCount, methodCount, listed, poolOf, rowIn, rowsIn, classIn}
+use Rattle.classfiles.specs.BlockWords.{length-listed}
 use Rattle.reader.specs.Numbers.{listed-at, map-listed}
 use Rattle.reader.specs.Linked.{filesIn}
 use Rattle.reader.specs.MemberRows.{blockAt, rowsWord, countWord, rowStart, rowCount, rowAt, rowSig, row-sig, sig-by}
 use Rattle.reader.specs.Lookup.{hitOf, class-at, class-past, built-in-class}
 use Rattle.reader.specs.declared.lookup.Hit.{Hit}
-use Rattle.reader.specs.declared.pool.Span.{Span}
+use Rattle.classfiles.specs.declared.pool.Span.{Span}
 
 -- which class a name means
 abbrev pub numberAs : List ℕ → ℕ → List ℕ → Text → ℕ

@@ -11,15 +11,15 @@ use borrow.Author.Tests.{not-true, not-false}
 use Rattle.kit.specs.Claims.{Claim, claim, Ruling, pass, fail, verdict, then, pass-then, fail-then, verdict-append, verdict-yes, verdict-no, verdict-none}
 use Rattle.kit.specs.Words.{word}
 use Rattle.reader.specs.Verdicts.{fault, Refusal, inClass, Verdict, each}
-use Rattle.reader.specs.Descriptors.{knownDesc}
-use Rattle.reader.specs.Members.{Member}
-use Rattle.reader.specs.Attributes.{memberOf}
-use Rattle.reader.specs.Bundle.{ClassFile}
+use Rattle.classfiles.specs.Descriptors.{knownDesc}
+use Rattle.classfiles.specs.Members.{Member}
+use Rattle.classfiles.specs.Attributes.{memberOf}
+use Rattle.classfiles.specs.Bundle.{ClassFile}
 use Rattle.reader.specs.BuiltIns.{firstClass}
 use Rattle.reader.specs.Program.{Signature, Program, noField, class, method, classCount, programOf, indexOf, fieldSigs, methodSigs, lookup}
 use Rattle.reader.specs.Link.{allKnown, agrees, fieldClaims, methodClaims}
-use Rattle.reader.specs.Blocks.{fieldRows, methodRows, fieldCount, methodCount, poolOf, rowIn, rowsIn, classIn}
-use Rattle.reader.specs.BlockWords.{length-listed}
+use Rattle.classfiles.specs.Blocks.{fieldRows, methodRows, fieldCount, methodCount, poolOf, rowIn, rowsIn, classIn}
+use Rattle.classfiles.specs.BlockWords.{length-listed}
 use Rattle.reader.specs.Numbers.{classAt, listed-at}
 use Rattle.reader.specs.Linked.{filesIn}
 use Rattle.reader.specs.MemberRows.{blockAt, rowsWord, countWord, rowStart, rowCount, rowAt, rowSig, firstAt}

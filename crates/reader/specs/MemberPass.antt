@@ -8,27 +8,28 @@ use lib.ListN.{length, getD, take, drop}
 use borrow.Author.Tests.{ne-eqb}
 use Rattle.kit.specs.Claims.{pass, fail, verdict, then, pass-then, fail-then, verdict-append}
 use Rattle.reader.specs.Verdicts.{fault, inClass, Verdict, each}
-use Rattle.reader.specs.Names.{Text}
-use Rattle.reader.specs.Descriptors.{fieldTypeAt, knownDesc}
-use Rattle.reader.specs.Table.{IsText}
-use Rattle.reader.specs.Members.{Member}
-use Rattle.reader.specs.Attributes.{memberOf}
-use Rattle.reader.specs.Bundle.{ClassFile}
+use Rattle.texts.specs.Names.{Text}
+use Rattle.classfiles.specs.Descriptors.{fieldTypeAt, knownDesc}
+use Rattle.classfiles.specs.Table.{IsText}
+use Rattle.classfiles.specs.Members.{Member}
+use Rattle.classfiles.specs.Attributes.{memberOf}
+use Rattle.classfiles.specs.Bundle.{ClassFile}
 use Rattle.reader.specs.BuiltIns.{firstClass}
 use Rattle.reader.specs.Program.{Program, Field, noField, class, method, numberIn, classNames, fieldOf, descOr, programOf, methodSigs, lookup}
 use Rattle.reader.specs.Link.{agrees, memberClaims}
-use Rattle.reader.specs.Blocks.{blockSize, rowIn, classIn, classesIn}
+use Rattle.classfiles.specs.Blocks.{blockSize, rowIn, classIn, classesIn}
 use Rattle.reader.specs.Numbers.{classAt}
 use Rattle.reader.specs.Chains.{counted, there}
 use Rattle.reader.specs.Linked.{filesIn, Parents, rulingOf, files-front}
 use Rattle.reader.specs.MemberRows.{blockAt, rowStart, rowCount, rowAt, rowSig, firstAt}
+use Rattle.reader.specs.Prints.{PrintedAt, Printed}
 use Rattle.reader.specs.Lookup.{class-count}
 use Rattle.reader.specs.MemberAt.{field-at}
 use Rattle.reader.specs.MemberClaims.{ruleAt, claimsOf, membersOf, memberKnown, member-double, member-unknown, member-fine, length-members, member-is, each-end, each-fail, each-pass}
 use Rattle.reader.specs.TypeCodes.{descOf, Described}
 use Rattle.reader.specs.MethodTypes.{Front, Ready, TypesTo, front-none, front-then, front-aside, front-block, front-program, front-ready, known-by, types-none, types-more, types-fill}
 use Rattle.reader.specs.declared.link.Linked.{Linked}
-use Rattle.reader.specs.declared.pool.Span.{Span}
+use Rattle.classfiles.specs.declared.pool.Span.{Span}
 
 abbrev pub programIn : List ℕ → ℕ → List ℕ → Program
 programIn s n t = programOf (filesIn s n t)
@@ -83,7 +84,7 @@ field-known-as s n t c j v p r a h l x e f =
 module _ (s : List ℕ) (n : ℕ) (t u : List ℕ) (a : Ready s n t) (c j : ℕ) (h : c < n) (l : j < rowCount (blockAt t c) true) (p : Span) (x : IsText s p (rowSig s (blockAt t c) true j .descriptor))
     (q : Bool) (d : Described s n (take (p .end - p .start) (drop (p .start) s)) (64 * c + j) q t u) where
   moved : Front t u
-  moved = front-aside (64 * c + j) t u (d .aside)
+  moved = front-aside (64 * c + j) t u (omega (arith, a .most, a .few c h true)) (d .aside)
 
   known-ready : Ready s n u
   known-ready = front-ready t u moved s n a
@@ -91,8 +92,8 @@ module _ (s : List ℕ) (n : ℕ) (t u : List ℕ) (a : Ready s n t) (c j : ℕ)
   known-row : j < rowCount (blockAt u c) true
   known-row = subst (λ (b : List ℕ). j < rowCount b true) (sym (front-block t u moved c (omega (arith, a .most)))) l
 
-  pub known-asked : (n ≤ 16) × (c < n) × (16 * blockSize ≤ length u) × (j < rowCount (blockAt u c) true) × (j < 2 ^ 32) × Parents s n u
-  known-asked = (a .most, h, omega (arith, known-ready .long), known-row, omega (arith, a .few c h true), known-ready .parents)
+  pub known-asked : (n ≤ 16) × (c < n) × (16 * blockSize ≤ length u) × (j < rowCount (blockAt u c) true) × (j < 2 ^ 32) × Parents s n u × Printed s n u
+  known-asked = (a .most, h, omega (arith, known-ready .long), known-row, omega (arith, a .few c h true), known-ready .parents, known-ready .printed)
 
   leaves : (r : Bool) → r ≡ memberKnown (programIn s n t) c true j → MethodKnown s n c j r t u
   leaves r e = record { is = e; front = moved; types = types-more s n t u a c j h l _ (x .is) q d }
@@ -117,6 +118,9 @@ module _ (s : List ℕ) (n : ℕ) (t : List ℕ) (a : Ready s n t) (c : ℕ) (h 
   module _ (method : Bool) (j : ℕ) (l : j < rowCount (blockAt t c) method) where
     pub ready-row : (c < 16) × (16 * blockSize ≤ length t) × (j < 2 ^ 32)
     ready-row = (omega (arith, a .most), omega (arith, a .long), omega (arith, a .few c h method))
+
+    pub ready-first : (c < 16) × PrintedAt s t c method × (j < rowCount (blockAt t c) method)
+    ready-first = (omega (arith, a .most), a .printed .at c h method, l)
 
     module _ (q : Bool) (e : q ≡ firstAt s (blockAt t c) method j) where
       pub ruled-double : not q ≡ true → MemberRuled s n c method j 8 t t

@@ -11,17 +11,17 @@ use borrow.Author.Tests.{not-true, not-false}
 use Rattle.kit.specs.Lists.{eqList}
 use Rattle.kit.specs.Scan.{firstNot}
 use Rattle.kit.specs.Words.{word}
-use Rattle.reader.specs.Reading.{u2At}
-use Rattle.reader.specs.Names.{Text}
-use Rattle.reader.specs.Pool.{text}
-use Rattle.reader.specs.Table.{poolIn, IsText}
-use Rattle.reader.specs.Members.{Member}
-use Rattle.reader.specs.Attributes.{memberOf}
+use Rattle.texts.specs.Reading.{u2At}
+use Rattle.texts.specs.Names.{Text}
+use Rattle.classfiles.specs.Pool.{text}
+use Rattle.classfiles.specs.Table.{poolIn, IsText}
+use Rattle.classfiles.specs.Members.{Member}
+use Rattle.classfiles.specs.Attributes.{memberOf}
 use Rattle.reader.specs.Program.{Signature, signature, sameSignature, indexOf}
-use Rattle.reader.specs.Blocks.{blockSize, poolWord, fieldCount, methodCount, fieldRows, methodRows, listed, poolOf, rowIn}
-use Rattle.reader.specs.BlockWords.{length-listed}
+use Rattle.classfiles.specs.Blocks.{blockSize, poolWord, fieldCount, methodCount, fieldRows, methodRows, listed, poolOf, rowIn}
+use Rattle.classfiles.specs.BlockWords.{length-listed}
 use Rattle.reader.specs.Numbers.{listed-at, part-block}
-use Rattle.reader.specs.declared.pool.Span.{Span}
+use Rattle.classfiles.specs.declared.pool.Span.{Span}
 
 -- block c of those in t
 abbrev pub blockAt : List ℕ → ℕ → List ℕ
@@ -138,10 +138,6 @@ pub index-via : (s b : List ℕ) (method : Bool) (g : Signature) (n r : ℕ) →
 index-via s b method g n r e h = h ∙ ap (λ (m : ℕ). firstNot (otherSig s b method g) m 0) e ∙ index-first s b method g
 
 -- the part that block c is lent as
-pub index-block : (s t : List ℕ) (c : ℕ) (method : Bool) (g : Signature) (r : ℕ) → r ≡ indexOf g (rowSigs s (take (6432 * c + 6432 - 6432 * c) (drop (6432 * c) t)) method)
-    → r ≡ indexOf g (rowSigs s (blockAt t c) method)
-index-block s t c method g r h = h ∙ ap (λ (b : List ℕ). indexOf g (rowSigs s b method)) (part-block t c)
-
 pub count-block : (t : List ℕ) (c : ℕ) (method : Bool) (r : ℕ) → r ≡ rowCount (take (6432 * c + 6432 - 6432 * c) (drop (6432 * c) t)) method → r ≡ rowCount (blockAt t c) method
 count-block t c method r h = h ∙ ap (λ (b : List ℕ). rowCount b method) (part-block t c)
 
@@ -166,8 +162,3 @@ pub sig-by : (s b : List ℕ) (method : Bool) (j : ℕ) (p d : Span) → IsText 
     → signature (take (p .end - p .start) (drop (p .start) s)) (take (d .end - d .start) (drop (d .start) s)) ≡ rowSig s b method j
 unfolding rowSig
 sig-by s b method j p d h k = rw (h .is, k .is)
-
-pub first-by : (s b : List ℕ) (method : Bool) (j r : ℕ) (p d : Span) → IsText s p (rowSig s b method j .name) → IsText s d (rowSig s b method j .descriptor)
-    → r ≡ indexOf (signature (take (p .end - p .start) (drop (p .start) s)) (take (d .end - d .start) (drop (d .start) s))) (rowSigs s b method) → eqb r j ≡ firstAt s b method j
-unfolding firstAt
-first-by s b method j r p d h k e = ap (λ (i : ℕ). eqb i j) (e ∙ ap (λ (g : Signature). indexOf g (rowSigs s b method)) (sig-by s b method j p d h k))

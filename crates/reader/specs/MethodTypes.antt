@@ -1,32 +1,33 @@
 -- The methods' types as linking leaves them in the scratch, and the steps that write them. Assumes nothing.
-use Prim.Native.Nat.{ℕ, _+_, _-_, _*_, _%_, _<_, _≤_}
+use Prim.Native.Nat.{ℕ, _+_, _*_, _%_, _<_, _≤_}
 use mathlib.Core.Path.{_≡_, refl, sym, ap, subst, _∙_}
 use mathlib.Core.List.{List, _++_}
 use mathlib.Core.Bool.{Bool, true}
 use mathlib.Core.Logic.{_⊎_, inl, inr}
 use native.Mathlib.Omega.{arith}
 use lib.ListN.{length, getD, take, drop, length-take}
-use lib.Seq.{getD-take, take-take}
-use Rattle.kit.specs.Lists.{drop-take}
+use lib.Seq.{getD-take}
 use Rattle.kit.specs.Pick.{side}
-use Rattle.reader.specs.Limits.{maxParameters}
-use Rattle.reader.specs.Names.{Text}
-use Rattle.reader.specs.Descriptors.{MethodType, methodTypeAt}
-use Rattle.reader.specs.Attributes.{memberOf}
+use Rattle.classfiles.specs.Limits.{maxParameters}
+use Rattle.texts.specs.Names.{Text}
+use Rattle.classfiles.specs.Descriptors.{MethodType, methodTypeAt}
+use Rattle.classfiles.specs.Attributes.{memberOf}
 use Rattle.reader.specs.BuiltIns.{firstClass}
 use Rattle.reader.specs.Program.{Program, Method, class, method, methodOf, methodTypeOr, programOf}
 use Rattle.reader.specs.Link.{allKnown}
-use Rattle.reader.specs.Blocks.{blockSize, rowIn, classesIn}
-use Rattle.reader.specs.BlockWords.{kept-word}
+use Rattle.classfiles.specs.Blocks.{rowIn, classesIn}
+use Rattle.classfiles.specs.BlockWords.{kept-word}
 use Rattle.reader.specs.Linked.{parentsAt, parentsWord, filesIn, Parents}
 use Rattle.reader.specs.MemberRows.{blockAt, rowStart, rowCount, rowAt, rowSig}
+use Rattle.reader.specs.Prints.{Printed, same-front, same-back, same-block, printed-moved}
 use Rattle.reader.specs.MemberAt.{numberAs, method-at}
 use Rattle.reader.specs.TypeCodes.{typesAt, typesEnd, typesOf, codesIn, resultAt, paramsIn, resultsIn, Aside, Described}
 use Rattle.reader.specs.CodeLaws.{codes-same, params-length, aside-take}
 
--- the blocks and the parents' numbers are as they were
+-- the blocks, the parents' numbers and the prints are as they were
 pub record Front (t u : List ℕ) : Type 0 where
   pub same : take typesAt u ≡ take typesAt t
+  pub past : drop typesEnd u ≡ drop typesEnd t
   pub long : length u ≡ length t
 
 -- what linking members asks of the scratch
@@ -35,6 +36,7 @@ pub record Ready (s : List ℕ) (n : ℕ) (t : List ℕ) : Type 0 where
   pub long : typesEnd ≤ length t
   pub few : (c : ℕ) → c < n → (method : Bool) → rowCount (blockAt t c) method ≤ 64
   pub parents : Parents s n t
+  pub printed : Printed s n t
 
 -- the entry of method j of class c
 pub record TypesKept (s : List ℕ) (n : ℕ) (t : List ℕ) (c j : ℕ) : Type 0 where
@@ -46,26 +48,38 @@ pub record TypesTo (s : List ℕ) (n : ℕ) (t : List ℕ) (k : ℕ) : Type 0 wh
   pub at : (c j : ℕ) → c < n → j < rowCount (blockAt t c) true → 64 * c + j < k → TypesKept s n t c j
 
 -- ---- what stands in front stays
+module _ (t u : List ℕ) (e : take typesAt u ≡ take typesAt t) where
+  pub fore-take : (a : ℕ) → a ≤ typesAt → take a u ≡ take a t
+  fore-take a l = same-front typesAt a t u l e
+
+  pub fore-block : (c : ℕ) → c < 16 → blockAt u c ≡ blockAt t c
+  fore-block c l = same-block t u (fore-take parentsAt (omega arith)) c l
+
+  fore-files : (s : List ℕ) (n : ℕ) → filesIn s n u ≡ filesIn s n t
+  fore-files s n = ap (λ (x : List ℕ). classesIn s x n) (fore-take parentsAt (omega arith))
+
+  fore-program : (s : List ℕ) (n : ℕ) → programOf (filesIn s n u) ≡ programOf (filesIn s n t)
+  fore-program s n = ap programOf (fore-files s n)
+
+  pub fore-parents : (s : List ℕ) (n : ℕ) → n ≤ 16 → Parents s n t → Parents s n u
+  fore-parents s n m p =
+      record { at = λ c l. kept-word 42144 t u e (parentsWord + c) (omega arith) ∙ p .at c l ∙ ap (λ (P : Program). class P c .parent) (sym (fore-program s n)) }
+
 module _ (t u : List ℕ) (h : Front t u) where
   pub front-take : (a : ℕ) → a ≤ typesAt → take a u ≡ take a t
-  front-take a l = sym (take-take a typesAt u l) ∙ ap (take a) (h .same) ∙ take-take a typesAt t l
+  front-take = fore-take t u (h .same)
 
   pub front-block : (c : ℕ) → c < 16 → blockAt u c ≡ blockAt t c
-  front-block c l = sym (cut u) ∙ ap (λ (x : List ℕ). take blockSize (drop (blockSize * c) x)) (h .same) ∙ cut t
-    where
-      cut : (x : List ℕ) → take blockSize (drop (blockSize * c) (take typesAt x)) ≡ take blockSize (drop (blockSize * c) x)
-      cut x =
-          ap (take blockSize) (drop-take (blockSize * c) typesAt x) ∙ take-take blockSize (typesAt - blockSize * c) (drop (blockSize * c) x) (omega arith)
-
-  pub front-files : (s : List ℕ) (n : ℕ) → filesIn s n u ≡ filesIn s n t
-  front-files s n = ap (λ (x : List ℕ). classesIn s x n) (front-take parentsAt (omega arith))
+  front-block = fore-block t u (h .same)
 
   pub front-program : (s : List ℕ) (n : ℕ) → programOf (filesIn s n u) ≡ programOf (filesIn s n t)
-  front-program s n = ap programOf (front-files s n)
+  front-program = fore-program t u (h .same)
 
   pub front-parents : (s : List ℕ) (n : ℕ) → n ≤ 16 → Parents s n t → Parents s n u
-  front-parents s n m p =
-      record { at = λ c l. kept-word 42144 t u (h .same) (parentsWord + c) (omega arith) ∙ p .at c l ∙ ap (λ (P : Program). class P c .parent) (sym (front-program s n)) }
+  front-parents = fore-parents t u (h .same)
+
+  pub front-printed : (s : List ℕ) (n : ℕ) → n ≤ 16 → Printed s n t → Printed s n u
+  front-printed s n m p = printed-moved s n t u m (front-take parentsAt (omega arith)) (h .past) (h .long) p
 
   pub front-ready : (s : List ℕ) (n : ℕ) → Ready s n t → Ready s n u
   front-ready s n r = record {
@@ -73,16 +87,21 @@ module _ (t u : List ℕ) (h : Front t u) where
     long = omega (arith, h .long, r .long);
     few = λ c l method. subst (λ (b : List ℕ). rowCount b method ≤ 64) (sym (front-block c (omega (arith, r .most)))) (r .few c l method);
     parents = front-parents s n (r .most) (r .parents);
+    printed = front-printed s n (r .most) (r .printed);
   }
 
 pub front-none : (t : List ℕ) → Front t t
-front-none t = record { same = refl; long = refl }
+front-none t = record { same = refl; past = refl; long = refl }
 
 pub front-then : (t u v : List ℕ) → Front t u → Front u v → Front t v
-front-then t u v h k = record { same = k .same ∙ h .same; long = k .long ∙ h .long }
+front-then t u v h k = record { same = k .same ∙ h .same; past = k .past ∙ h .past; long = k .long ∙ h .long }
 
-pub front-aside : (k : ℕ) (t u : List ℕ) → Aside (typesOf k) 18 t u → Front t u
-front-aside k t u h = record { same = aside-take (typesOf k) 18 t u typesAt h (omega arith); long = h .long }
+pub front-aside : (k : ℕ) (t u : List ℕ) → k < 1024 → Aside (typesOf k) 18 t u → Front t u
+front-aside k t u l h = record {
+  same = aside-take (typesOf k) 18 t u typesAt h (omega arith);
+  past = same-back (typesOf k + 18) typesEnd t u (omega arith) (h .after);
+  long = h .long;
+}
 
 -- ---- an entry below the one that is written stays
 module _ (k : ℕ) (t u : List ℕ) (h : Aside (typesOf k) 18 t u) (i : ℕ) (l : i < k) where
@@ -145,7 +164,7 @@ module _ (s : List ℕ) (n : ℕ) (t u : List ℕ) (r : Ready s n t) (c j : ℕ)
   P = programOf (filesIn s n t)
 
   front : Front t u
-  front = front-aside (64 * c + j) t u (d .aside)
+  front = front-aside (64 * c + j) t u (omega (arith, r .most, r .few c h true)) (d .aside)
 
   typed-by : methodTypeOr (methodTypeAt (numberAs s n t) x 0) ≡ record { params = method P (firstClass + c) j .params; results = method P (firstClass + c) j .results }
   unfolding methodOf rowAt rowIn memberOf rowSig rowStart

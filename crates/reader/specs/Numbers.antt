@@ -12,16 +12,16 @@ use Rattle.kit.specs.Lists.{eqList}
 use Rattle.kit.specs.Pick.{side}
 use Rattle.kit.specs.Scan.{firstNot}
 use Rattle.kit.specs.Words.{word}
-use Rattle.reader.specs.Reading.{u2At}
-use Rattle.reader.specs.Names.{Text}
-use Rattle.reader.specs.Pool.{classText}
-use Rattle.reader.specs.Table.{poolIn, IsText}
-use Rattle.reader.specs.Bundle.{ClassFile}
+use Rattle.texts.specs.Reading.{u2At}
+use Rattle.texts.specs.Names.{Text}
+use Rattle.classfiles.specs.Pool.{classText}
+use Rattle.classfiles.specs.Table.{poolIn, IsText}
+use Rattle.classfiles.specs.Bundle.{ClassFile}
 use Rattle.reader.specs.BuiltIns.{BuiltIn, builtIns, firstClass}
 use Rattle.reader.specs.Program.{numberIn, classNames}
-use Rattle.reader.specs.Blocks.{blockSize, poolWord, thisWord, listed, poolOf, classIn, classesIn}
-use Rattle.reader.specs.BlockWords.{length-listed}
-use Rattle.reader.specs.declared.pool.Span.{Span}
+use Rattle.classfiles.specs.Blocks.{blockSize, poolWord, thisWord, listed, poolOf, classIn, classesIn}
+use Rattle.classfiles.specs.BlockWords.{length-listed}
+use Rattle.classfiles.specs.declared.pool.Span.{Span}
 
 -- class c of the blocks in t
 abbrev pub classAt : List ℕ → List ℕ → ℕ → ClassFile

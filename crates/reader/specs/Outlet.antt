@@ -9,7 +9,7 @@ use lib.ListN.{length, getD, replicate}
 use borrow.Author.Tests.{lt-ltb, le-ltb, eq-eqb, ne-eqb}
 use Rattle.kit.specs.Claims.{pass, fail}
 use Rattle.kit.specs.Words.{putWord}
-use Rattle.reader.specs.Limits.{scratchSize, unnamed}
+use Rattle.classfiles.specs.Limits.{scratchSize, unnamed}
 use Rattle.reader.specs.Verdicts.{fault, Refusal, inBundle, inMethod, Verdict, numbers}
 use Rattle.reader.specs.Link.{Read, refused, program, readBundle}
 use Rattle.reader.specs.FaultNumbers.{LowRead, read-low}

@@ -5,12 +5,12 @@ use mathlib.Core.Bool.{Bool, true, false, cond}
 use lib.ListN.{length, getD}
 use lib.Dec.{ltb, eqb}
 use Rattle.kit.specs.Lists.{eqList}
-use Rattle.reader.specs.Reading.{Res, ok, bad}
-use Rattle.reader.specs.Names.{Text, init, isInit}
-use Rattle.reader.specs.Descriptors.{Desc, dint, MethodType, methodType, fieldTypeAt, methodTypeAt}
-use Rattle.reader.specs.Pool.{Constant}
-use Rattle.reader.specs.Members.{Found, none, Body, Member}
-use Rattle.reader.specs.Bundle.{ClassFile, Super, zero′, named}
+use Rattle.texts.specs.Reading.{Res, ok, bad}
+use Rattle.texts.specs.Names.{Text, init, isInit}
+use Rattle.classfiles.specs.Descriptors.{Desc, dint, MethodType, methodType, fieldTypeAt, methodTypeAt}
+use Rattle.classfiles.specs.Pool.{Constant}
+use Rattle.classfiles.specs.Members.{Found, none, Body, Member}
+use Rattle.classfiles.specs.Bundle.{ClassFile, Super, zero′, named}
 use Rattle.reader.specs.BuiltIns.{BuiltIn, builtIns, firstClass}
 
 -- what a member is found by

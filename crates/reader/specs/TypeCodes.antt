@@ -7,17 +7,17 @@ use native.Mathlib.Omega.{arith}
 use lib.Dec.{ltb, eqb}
 use lib.ListN.{length, getD, set, take, drop}
 use borrow.Author.Tests.{eq-eqb, ne-eqb, not-true, not-false}
-use Rattle.reader.specs.Limits.{maxParameters, maxDimensions}
-use Rattle.reader.specs.Reading.{Res, ok, bad, andThen, pre, part}
-use Rattle.reader.specs.Names.{Text}
-use Rattle.reader.specs.Answers.{resAs}
-use Rattle.reader.specs.Descriptors.{Ref, cls, arr, Desc, dint, dref, MethodType, methodTypeAt, namedAt, baseAt, typeAt, paramsAt, knownRef, knownDesc}
-use Rattle.reader.specs.Shapes.{seen}
-use Rattle.reader.specs.Blocks.{listed}
+use Rattle.classfiles.specs.Limits.{maxParameters, maxDimensions}
+use Rattle.texts.specs.Reading.{Res, ok, bad, andThen, pre, part}
+use Rattle.texts.specs.Names.{Text}
+use Rattle.texts.specs.Answers.{resAs}
+use Rattle.classfiles.specs.Descriptors.{Ref, cls, arr, Desc, dint, dref, MethodType, methodTypeAt, namedAt, baseAt, typeAt, paramsAt, knownRef, knownDesc}
+use Rattle.classfiles.specs.Shapes.{seen}
+use Rattle.classfiles.specs.Blocks.{listed}
 use Rattle.reader.specs.Program.{Program, numberIn, classNames, methodTypeOr, programOf}
 use Rattle.reader.specs.Link.{allKnown}
 use Rattle.reader.specs.Linked.{filesIn}
-use Rattle.reader.specs.declared.items.Got.{Got}
+use Rattle.texts.specs.declared.items.Got.{Got}
 use Rattle.reader.specs.declared.types.Listed.{Listed}
 
 -- ---- codes

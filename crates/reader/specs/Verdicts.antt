@@ -2,7 +2,7 @@
 use Prim.Native.Nat.{ℕ, suc}
 use mathlib.Core.List.{List, [], _∷_, _++_}
 use Rattle.kit.specs.Claims.{Claim, Ruling, pass, fail}
-use Rattle.reader.specs.Limits.{unnamed}
+use Rattle.classfiles.specs.Limits.{unnamed}
 
 -- a fault: the verdict's number and its place, before it is said in which class and method
 pub record Fault : Type 0 where

@@ -1,34 +1,34 @@
 -- Phases A and B whole: what `read` answers and what it leaves in the scratch. Assumes nothing.
-use Prim.Native.Nat.{ℕ, _+_, _-_, _*_, _<_, _≤_}
+use Prim.Native.Nat.{ℕ, _+_, _*_, _<_, _≤_}
 use mathlib.Core.Path.{_≡_, sym, ap, _∙_}
 use mathlib.Core.List.{List}
 use mathlib.Core.Bool.{Bool, true, false, cond, not}
 use native.Mathlib.Omega.{arith}
 use lib.Dec.{eqb}
-use lib.ListN.{length, take, drop}
-use lib.Seq.{take-all, take-take}
+use lib.ListN.{length, take}
+use lib.Seq.{take-all}
 use borrow.Author.Tests.{ne-eqb, eqb-true}
 use Rattle.kit.specs.Claims.{pass, fail, verdict, then, then-assoc, pass-then, fail-then}
 use Rattle.kit.specs.Bools.{not-so}
-use Rattle.kit.specs.Lists.{drop-take}
-use Rattle.reader.specs.Limits.{maxParameters, unnamed}
+use Rattle.classfiles.specs.Limits.{maxParameters, unnamed}
 use Rattle.reader.specs.Verdicts.{fault, inMethod, inClass, each}
-use Rattle.reader.specs.Reading.{ok}
-use Rattle.reader.specs.Answers.{resAs, no-ok, no-bad}
-use Rattle.reader.specs.Bundle.{ClassFile, bundleAt}
+use Rattle.texts.specs.Reading.{ok}
+use Rattle.texts.specs.Answers.{resAs, no-ok, no-bad}
+use Rattle.classfiles.specs.Bundle.{ClassFile, bundleAt}
 use Rattle.reader.specs.BuiltIns.{firstClass}
 use Rattle.reader.specs.Program.{method, methodOf, programOf}
 use Rattle.reader.specs.Link.{uniqueClass, memberClaims, linked, Read, refused, program, orRefused, readAs, readBundle}
-use Rattle.reader.specs.Blocks.{blockSize, classesIn}
+use Rattle.classfiles.specs.Blocks.{classesIn}
 use Rattle.reader.specs.Linked.{parentsAt, filesIn, Parents, rulingOf, classRuling, ClassesLinked, files-front}
 use Rattle.reader.specs.MemberRows.{blockAt, rowCount, rowAt}
+use Rattle.reader.specs.Prints.{printsEnd, FewRows, Printed, AllPrinted, same-front, same-block}
 use Rattle.reader.specs.MemberAt.{numberAs, method-at}
-use Rattle.reader.specs.TypeCodes.{typesEnd, paramsIn, resultsIn}
+use Rattle.reader.specs.TypeCodes.{typesAt, typesEnd, paramsIn, resultsIn}
 use Rattle.reader.specs.Access.{Limited}
-use Rattle.reader.specs.MethodTypes.{Ready, TypesTo, front-take, front-parents}
+use Rattle.reader.specs.MethodTypes.{Ready, TypesTo, fore-take, fore-block, fore-parents, front-take, front-parents, front-printed}
 use Rattle.reader.specs.MemberPass.{programIn, MembersRuled}
 use Rattle.reader.specs.FileLimits.{BodyFits, MethodFits, limited, method-fit}
-use Rattle.reader.specs.declared.items.Got.{Got}
+use Rattle.texts.specs.declared.items.Got.{Got}
 use Rattle.reader.specs.declared.link.Linked.{Linked}
 use Rattle.reader.specs.declared.whole.Reading.{Reading}
 
@@ -38,14 +38,7 @@ pub record LinkedWhole (s : List ℕ) (n : ℕ) (r : Linked) (t u : List ℕ) : 
   pub blocks : take parentsAt u ≡ take parentsAt t
   pub parents : r .number ≡ 0 → Parents s n u
   pub types : r .number ≡ 0 → TypesTo s n u (64 * n)
-
--- the blocks are the same where the scratch is the same up to the parents' numbers
-same-block : (t u : List ℕ) → take parentsAt u ≡ take parentsAt t → (c : ℕ) → c < 16 → blockAt u c ≡ blockAt t c
-same-block t u e c l = sym (cut u) ∙ ap (λ (x : List ℕ). blockAt x c) e ∙ cut t
-  where
-    cut : (x : List ℕ) → blockAt (take parentsAt x) c ≡ blockAt x c
-    cut x =
-        ap (take blockSize) (drop-take (blockSize * c) parentsAt x) ∙ take-take blockSize (parentsAt - blockSize * c) (drop (blockSize * c) x) (omega arith)
+  pub printed : r .number ≡ 0 → Printed s n u
 
 pub same-limited : (n : ℕ) (t u : List ℕ) → n ≤ 16 → take parentsAt u ≡ take parentsAt t → Limited n t → Limited n u
 same-limited n t u m e l = record {
@@ -69,39 +62,52 @@ module _ (s : List ℕ) (n : ℕ) (t u : List ℕ) (m : n ≤ 16) (a : Linked) (
         blocks = x .blocks;
         parents = λ w. absurd (omega (arith, w));
         types = λ w. absurd (omega (arith, w));
+        printed = λ w. absurd (omega (arith, w));
       }
 
   module _ (z : a .number ≤ 0) where
     none : a .number ≡ 0
     none = omega arith
 
-    pub whole-ready : typesEnd ≤ length t → length u ≡ length t → Limited n t → Ready s n u
-    whole-ready l e h =
-        let k = same-limited n t u m (x .blocks) h in
-        record { most = m; long = omega arith; few = λ c g method. few k c g method; parents = x .parents none }
+    pub whole-few : printsEnd ≤ length t → length u ≡ length t → Limited n t → (n ≤ 16) × (printsEnd ≤ length u) × FewRows n u
+    whole-few l e h = (m, omega arith, record { at = λ c g method. few c g method })
       where
-        few : Limited n u → (c : ℕ) → c < n → (method : Bool) → rowCount (blockAt u c) method ≤ 64
-        few k c g true = k .methods c g
-        few k c g false = omega (arith, k .fields c g)
+        limits : Limited n u
+        limits = same-limited n t u m (x .blocks) h
 
-    pub whole-members : (v : List ℕ) (r : Linked) → MembersRuled s n r u v → LinkedWhole s n r t v
-    whole-members v r y = record {
-      is =
-          y .is ∙ ap (λ (fs : List ClassFile). verdict (each (memberClaims (programOf fs)) 0 fs)) files
-          ∙ sym (joined ∙ pass-then _ _ (sym (x .is) ∙ rw none));
-      blocks = front ∙ x .blocks;
-      parents = λ w. moved (x .parents none);
-      types = y .types;
-    }
-      where
-        files : filesIn s n u ≡ filesIn s n t
-        files = ap (λ (l : List ℕ). classesIn s l n) (x .blocks)
+        few : (c : ℕ) → c < n → (method : Bool) → rowCount (blockAt u c) method ≤ 64
+        few c g true = limits .methods c g
+        few c g false = omega (arith, limits .fields c g)
 
-        front : take parentsAt v ≡ take parentsAt u
-        front = front-take u v (y .front) parentsAt (omega arith)
+    module _ (f : FewRows n u) (v : List ℕ) (p : AllPrinted s n u v) where
+      same : take typesAt v ≡ take typesAt u
+      same = same-front typesEnd typesAt u v (omega arith) (p .front)
 
-        moved : Parents s n u → Parents s n v
-        moved p = front-parents u v (y .front) s n m p
+      pub whole-ready : printsEnd ≤ length u → Ready s n v
+      whole-ready l = record {
+        most = m;
+        long = omega (arith, p .long);
+        few = λ c g method. rw (fore-block u v same c (omega arith)) (f .at c g method);
+        parents = fore-parents u v same s n m (x .parents none);
+        printed = p .printed;
+      }
+
+      pub whole-members : (w : List ℕ) (r : Linked) → MembersRuled s n r v w → LinkedWhole s n r t w
+      whole-members w r y = record {
+        is =
+            y .is ∙ ap (λ (fs : List ClassFile). verdict (each (memberClaims (programOf fs)) 0 fs)) files
+            ∙ sym (joined ∙ pass-then _ _ (sym (x .is) ∙ rw none));
+        blocks = front-take v w (y .front) parentsAt (omega arith) ∙ before;
+        parents = λ z. front-parents v w (y .front) s n m (fore-parents u v same s n m (x .parents none));
+        types = y .types;
+        printed = λ z. front-printed v w (y .front) s n m (p .printed);
+      }
+        where
+          before : take parentsAt v ≡ take parentsAt t
+          before = fore-take u v same parentsAt (omega arith) ∙ x .blocks
+
+          files : filesIn s n v ≡ filesIn s n t
+          files = ap (λ (l : List ℕ). classesIn s l n) before
 
 -- ---- what is left in the scratch: n classes, their limits, their parents' numbers, and the types of their methods
 pub record MethodTypes (s : List ℕ) (n : ℕ) (t : List ℕ) : Type 0 where
@@ -125,13 +131,14 @@ readOf s r t = cond (r .ok) (program (programIn s (r .classes) t)) (refused (inM
 pub record IsReading (s : List ℕ) (r : Reading) (t : List ℕ) : Type 0 where
   pub is : readOf s r t ≡ readBundle s
   pub tables : r .ok ≡ true → Tables s (r .classes) t
+  pub printed : r .ok ≡ true → Printed s (r .classes) t
 
 pub read-bad : (s t : List ℕ) (g : Got) (fs : List ClassFile) → resAs g fs ≡ bundleAt s → not (g .ok) ≡ true
     → IsReading s (record { ok = false; number = g .val; class = unnamed; place = g .at; classes = 0 }) t
 unfolding readBundle readAs
-read-bad s t g fs e f = record { is = sym (ap readAs (no-bad (bundleAt s) g fs e f)); tables = λ z. absurd (not-so z) }
+read-bad s t g fs e f = record { is = sym (ap readAs (no-bad (bundleAt s) g fs e f)); tables = λ z. absurd (not-so z); printed = λ z. absurd (not-so z) }
 
-module _ (s t : List ℕ) (g : Got) (e : resAs g (classesIn s t (g .val)) ≡ bundleAt s) (f : not (g .ok) ≡ false) (m : g .val ≤ 16) (l : typesEnd ≤ length t) where
+module _ (s t : List ℕ) (g : Got) (e : resAs g (classesIn s t (g .val)) ≡ bundleAt s) (f : not (g .ok) ≡ false) (m : g .val ≤ 16) (l : printsEnd ≤ length t) where
   files-are : bundleAt s ≡ ok (classesIn s t (g .val)) (g .at)
   files-are = no-ok (bundleAt s) g (classesIn s t (g .val)) e f
 
@@ -183,6 +190,7 @@ module _ (s t : List ℕ) (g : Got) (e : resAs g (classesIn s t (g .val)) ≡ bu
         types = types-whole (x .types w);
         bodies = λ c j h k. fit c j h k .1;
       };
+      printed = λ z. x .printed (eqb-true (r .number) 0 z);
     }
       where
         by : (b : Bool) → orRefused (programIn s (g .val) u) (cond b pass (fail (inClass (r .class) (fault (r .number) (r .place))))) ≡ orRefused (programIn s (g .val) u) (linked (filesIn s (g .val) u) (programIn s (g .val) u))

@@ -1,21 +1,21 @@
 // What later phases ask of the blocks: pool entries, fields' types and methods' rows, by a class's place in the bundle; an object's size.
 use crate::link;
 use crate::lookup;
-use crate::pool;
-use crate::pool::Entry;
-use crate::pool::Span;
 use crate::signature;
 use crate::types;
+use classfiles::pool;
+use classfiles::pool::Entry;
+use classfiles::pool::Span;
 ghost use mathlib.Core.Path.{_≡_};
 ghost use mathlib.Core.Bool.{false};
 ghost use Prim.Native.Nat.{_*_, _+_, _^_, _<_, _≤_};
 ghost use lib.ListN.{length, getD};
 ghost use Rattle.kit.specs.Words.{word};
-ghost use Rattle.reader.specs.Pool.{entry, text};
-ghost use Rattle.reader.specs.Table.{constantOf, Inside, IsText};
+ghost use Rattle.classfiles.specs.Pool.{entry, text};
+ghost use Rattle.classfiles.specs.Table.{constantOf, Inside, IsText};
 ghost use Rattle.reader.specs.BuiltIns.{firstClass};
 ghost use Rattle.reader.specs.Program.{noField, class, programOf, ownTypes, layout};
-ghost use Rattle.reader.specs.Blocks.{blockSize, methodRows, poolOf};
+ghost use Rattle.classfiles.specs.Blocks.{blockSize, methodRows, poolOf};
 ghost use Rattle.reader.specs.Linked.{parentsEnd, filesIn, Parents};
 ghost use Rattle.reader.specs.MemberRows.{blockAt, rowCount};
 ghost use Rattle.reader.specs.TypeCodes.{descOf};

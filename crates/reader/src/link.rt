@@ -1,16 +1,16 @@
 // Linking: classes by name, supers as numbers, chains. The classes are those of the n blocks in t.
-use crate::items;
-use crate::names;
-use crate::pool;
-use crate::pool::Span;
+use classfiles::pool;
+use classfiles::pool::Span;
+use texts::items;
+use texts::names;
 ghost use mathlib.Core.Path.{_≡_};
 ghost use Prim.Native.Nat.{_+_, _-_, _*_, _<_, _≤_};
 ghost use lib.ListN.{length, take};
 ghost use Rattle.kit.specs.Words.{word};
-ghost use Rattle.reader.specs.Reading.{u2At};
-ghost use Rattle.reader.specs.Pool.{classText};
-ghost use Rattle.reader.specs.Table.{IsText};
-ghost use Rattle.reader.specs.Blocks.{blockSize, startWord, poolWord, thisWord, poolOf, classIn, classesIn};
+ghost use Rattle.texts.specs.Reading.{u2At};
+ghost use Rattle.classfiles.specs.Pool.{classText};
+ghost use Rattle.classfiles.specs.Table.{IsText};
+ghost use Rattle.classfiles.specs.Blocks.{blockSize, startWord, poolWord, thisWord, poolOf, classIn, classesIn};
 ghost use Rattle.reader.specs.BuiltIns.{firstClass};
 ghost use Rattle.reader.specs.Program.{numberIn, classNames, class, programOf};
 ghost use Rattle.kit.specs.Scan.{firstNot};

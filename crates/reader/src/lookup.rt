@@ -1,12 +1,14 @@
 // Members from a class upward. The classes are those of the n blocks in t, by their numbers.
-use crate::names;
+use crate::prints;
 use crate::signature;
+use texts::names;
 ghost use mathlib.Core.Path.{_≡_};
 ghost use Prim.Native.Nat.{_*_, _≤_};
 ghost use lib.ListN.{length};
 ghost use Rattle.reader.specs.Program.{signature, class, programOf, lookup};
-ghost use Rattle.reader.specs.Blocks.{blockSize};
+ghost use Rattle.classfiles.specs.Blocks.{blockSize};
 ghost use Rattle.reader.specs.Linked.{filesIn, Parents};
+ghost use Rattle.reader.specs.Prints.{printOf, Printed};
 ghost use Rattle.reader.specs.Lookup.{sigsOf, hitOf, ownSpot, builtInSpot};
 
 // Where a member is: the class that has it, and its number there.
@@ -48,16 +50,16 @@ fn built_in_own(c: usize, method: bool, x: &[u8], y: &[u8]) -> Hit
     }
 }
 
-// The member of name x and descriptor y that class c itself has.
-pub fn own(s: &[u8], t: &[u8], n: usize, c: usize, method: bool, x: &[u8], y: &[u8]) -> Hit
-    requires { ⌜ (n ≤ 16) × (16 * blockSize ≤ length (now t)) ⌝ }
+// The member of name x and descriptor y, whose print is p, that class c itself has.
+fn own_by(s: &[u8], t: &[u8], n: usize, c: usize, method: bool, x: &[u8], y: &[u8], p: u32) -> Hit
+    requires { ⌜ (n ≤ 16) × (16 * blockSize ≤ length (now t)) × Printed (now s) n (now t) × (p ≡ printOf (signature (now x) (now y))) ⌝ }
     ensures { λ r. ⌜ hitOf r ≡ ownSpot (programOf (filesIn (now (s .entry)) n (now (t .entry)))) (sigsOf method) (signature (now (x .entry)) (now (y .entry))) c ⌝ }
 {
     if c < 11 {
         return built_in_own(c, method, x, y);
     }
     if c < 11 + n {
-        let i = signature::first_same(s, t, c - 11, method, x, y);
+        let i = signature::first_same(s, t, c - 11, method, x, y, p);
         let k = signature::member_count(t, c - 11, method);
         return Hit {
             found: i < k,
@@ -72,6 +74,15 @@ pub fn own(s: &[u8], t: &[u8], n: usize, c: usize, method: bool, x: &[u8], y: &[
     }
 }
 
+// The same, where its print is not at hand.
+pub fn own(s: &[u8], t: &[u8], n: usize, c: usize, method: bool, x: &[u8], y: &[u8]) -> Hit
+    requires { ⌜ (n ≤ 16) × (16 * blockSize ≤ length (now t)) × Printed (now s) n (now t) ⌝ }
+    ensures { λ r. ⌜ hitOf r ≡ ownSpot (programOf (filesIn (now (s .entry)) n (now (t .entry)))) (sigsOf method) (signature (now (x .entry)) (now (y .entry))) c ⌝ }
+{
+    let p = prints::print(x, y);
+    own_by(s, t, n, c, method, x, y, p)
+}
+
 // The parent of class c, 0 for a number that no class has.
 pub fn above(s: &[u8], t: &[u8], n: usize, c: usize) -> usize
     requires { ⌜ (n ≤ 16) × Parents (now s) n (now t) ⌝ }
@@ -83,15 +94,24 @@ pub fn above(s: &[u8], t: &[u8], n: usize, c: usize) -> usize
     0
 }
 
-// The first of name x and descriptor y from class `from` upward.
-pub fn seek(s: &[u8], t: &[u8], n: usize, from: usize, method: bool, x: &[u8], y: &[u8]) -> Hit
-    requires { ⌜ (n ≤ 16) × (16 * blockSize ≤ length (now t)) × Parents (now s) n (now t) ⌝ }
+// The first of name x and descriptor y, whose print is p, from class `from` upward.
+pub fn seek_by(
+    s: &[u8],
+    t: &[u8],
+    n: usize,
+    from: usize,
+    method: bool,
+    x: &[u8],
+    y: &[u8],
+    p: u32,
+) -> Hit
+    requires { ⌜ (n ≤ 16) × (16 * blockSize ≤ length (now t)) × Parents (now s) n (now t) × Printed (now s) n (now t) × (p ≡ printOf (signature (now x) (now y))) ⌝ }
     ensures { λ r. ⌜ hitOf r ≡ lookup (programOf (filesIn (now (s .entry)) n (now (t .entry)))) (sigsOf method) (signature (now (x .entry)) (now (y .entry))) from ⌝ }
 {
     let mut c = from;
     let mut left = 11 + n;
     while 0 < left {
-        let r = own(s, t, n, c, method, x, y);
+        let r = own_by(s, t, n, c, method, x, y, p);
         if r.found {
             return r;
         }
@@ -106,4 +126,13 @@ pub fn seek(s: &[u8], t: &[u8], n: usize, from: usize, method: bool, x: &[u8], y
         class: 0,
         index: 0,
     }
+}
+
+// The same, where its print is not at hand.
+pub fn seek(s: &[u8], t: &[u8], n: usize, from: usize, method: bool, x: &[u8], y: &[u8]) -> Hit
+    requires { ⌜ (n ≤ 16) × (16 * blockSize ≤ length (now t)) × Parents (now s) n (now t) × Printed (now s) n (now t) ⌝ }
+    ensures { λ r. ⌜ hitOf r ≡ lookup (programOf (filesIn (now (s .entry)) n (now (t .entry)))) (sigsOf method) (signature (now (x .entry)) (now (y .entry))) from ⌝ }
+{
+    let p = prints::print(x, y);
+    seek_by(s, t, n, from, method, x, y, p)
 }

@@ -1,18 +1,22 @@
 // Members by name and descriptor: the rows of one class's block.
-use crate::items;
 use crate::link;
-use crate::names;
-use crate::pool;
-use crate::pool::Span;
+use crate::prints;
+use classfiles::pool;
+use classfiles::pool::Span;
+use texts::items;
+use texts::names;
 ghost use mathlib.Core.Path.{_≡_};
 ghost use Prim.Native.Nat.{_*_, _^_, _<_, _≤_};
 ghost use lib.ListN.{length};
-ghost use Rattle.reader.specs.Reading.{u2At};
-ghost use Rattle.reader.specs.Pool.{text};
-ghost use Rattle.reader.specs.Table.{IsText};
+ghost use Rattle.kit.specs.Scan.{firstNot};
+ghost use Rattle.kit.specs.Words.{word};
+ghost use Rattle.texts.specs.Reading.{u2At};
+ghost use Rattle.classfiles.specs.Pool.{text};
+ghost use Rattle.classfiles.specs.Table.{IsText};
 ghost use Rattle.reader.specs.Program.{signature, indexOf};
-ghost use Rattle.reader.specs.Blocks.{blockSize, poolOf};
+ghost use Rattle.classfiles.specs.Blocks.{blockSize, poolOf};
 ghost use Rattle.reader.specs.MemberRows.{blockAt, rowsWord, rowStart, rowCount, rowSig, rowSigs, otherSig, firstAt};
+ghost use Rattle.reader.specs.Prints.{printOf, PrintedAt, RowPrints};
 
 // The text that the number at p names.
 pub fn text_at(s: &[u8], b: &[u8], p: usize) -> Span
@@ -70,15 +74,43 @@ fn other_row(s: &[u8], b: &[u8], method: bool, j: usize, x: &[u8], y: &[u8]) -> 
     !names::same_text(&s[h..k], y)
 }
 
-// The first row of name x and descriptor y, or as many as there are.
-fn first_row(s: &[u8], b: &[u8], method: bool, x: &[u8], y: &[u8]) -> usize
-    requires { ⌜ length (now b) ≡ blockSize ⌝ }
-    ensures { λ r. ⌜ r ≡ indexOf (signature (now (x .entry)) (now (y .entry))) (rowSigs (now (s .entry)) (now (b .entry)) method) ⌝ }
+// The same, of a row whose print stands in w, where p is the print of x and y.
+fn other_print(
+    s: &[u8],
+    b: &[u8],
+    w: &[u8],
+    method: bool,
+    j: usize,
+    x: &[u8],
+    y: &[u8],
+    p: u32,
+) -> bool
+    requires { ⌜ (length (now b) ≡ blockSize) × (j < 2 ^ 32) × (word (now w) j ≡ printOf (rowSig (now s) (now b) method j)) × (p ≡ printOf (signature (now x) (now y))) ⌝ }
+    ensures { λ r. ⌜ r ≡ otherSig (now (s .entry)) (now (b .entry)) method (signature (now (x .entry)) (now (y .entry))) j ⌝ }
 {
-    let n = row_count(b, method);
+    if kit::word(w, j) == p {
+        return other_row(s, b, method, j, x, y);
+    }
+    true
+}
+
+// The first of the first n rows that has name x and descriptor y, or n; the prints of those rows are in w.
+fn first_row(
+    s: &[u8],
+    b: &[u8],
+    w: &[u8],
+    n: usize,
+    method: bool,
+    x: &[u8],
+    y: &[u8],
+    p: u32,
+) -> usize
+    requires { ⌜ (length (now b) ≡ blockSize) × (n < 2 ^ 32) × RowPrints (now s) (now b) method n (now w) × (p ≡ printOf (signature (now x) (now y))) ⌝ }
+    ensures { λ r. ⌜ r ≡ firstNot (otherSig (now (s .entry)) (now (b .entry)) method (signature (now (x .entry)) (now (y .entry)))) n 0 ⌝ }
+{
     let mut i = 0;
     while i < n {
-        if !other_row(s, b, method, i, x, y) {
+        if !other_print(s, b, w, method, i, x, y, p) {
             return i;
         }
         i += 1;
@@ -86,14 +118,29 @@ fn first_row(s: &[u8], b: &[u8], method: bool, x: &[u8], y: &[u8]) -> usize
     i
 }
 
-// The same in block c.
-pub fn first_same(s: &[u8], t: &[u8], c: usize, method: bool, x: &[u8], y: &[u8]) -> usize
-    requires { ⌜ (c < 16) × (16 * blockSize ≤ length (now t)) ⌝ }
-    ensures { λ r. ⌜ r ≡ indexOf (signature (now (x .entry)) (now (y .entry))) (rowSigs (now (s .entry)) (blockAt (now (t .entry)) c) method) ⌝ }
+// The same in block c: nothing is read there where no print is p.
+fn first_of(
+    s: &[u8],
+    t: &[u8],
+    c: usize,
+    method: bool,
+    n: usize,
+    x: &[u8],
+    y: &[u8],
+    p: u32,
+) -> usize
+    requires { ⌜ (c < 16) × PrintedAt (now s) (now t) c method × (n ≤ rowCount (blockAt (now t) c) method) × (p ≡ printOf (signature (now x) (now y))) ⌝ }
+    ensures { λ r. ⌜ r ≡ firstNot (otherSig (now (s .entry)) (blockAt (now (t .entry)) c) method (signature (now (x .entry)) (now (y .entry)))) n 0 ⌝ }
 {
-    let a = 6432 * c;
-    let e = a + 6432;
-    first_row(s, &t[a..e], method, x, y)
+    let w = prints::first_word(c, method);
+    let f = 4 * w;
+    let g = f + 4 * n;
+    if prints::has(&t[f..g], p) {
+        let a = 6432 * c;
+        let e = a + 6432;
+        return first_row(s, &t[a..e], &t[f..g], n, method, x, y, p);
+    }
+    n
 }
 
 // How many members block c has.
@@ -104,6 +151,15 @@ pub fn member_count(t: &[u8], c: usize, method: bool) -> usize
     let a = 6432 * c;
     let e = a + 6432;
     row_count(&t[a..e], method)
+}
+
+// The first member of block c of name x and descriptor y, whose print is p, or as many as there are.
+pub fn first_same(s: &[u8], t: &[u8], c: usize, method: bool, x: &[u8], y: &[u8], p: u32) -> usize
+    requires { ⌜ (c < 16) × PrintedAt (now s) (now t) c method × (p ≡ printOf (signature (now x) (now y))) ⌝ }
+    ensures { λ r. ⌜ r ≡ indexOf (signature (now (x .entry)) (now (y .entry))) (rowSigs (now (s .entry)) (blockAt (now (t .entry)) c) method) ⌝ }
+{
+    let n = member_count(t, c, method);
+    first_of(s, t, c, method, n, x, y, p)
 }
 
 // Where member j of block c starts in the bundle.
@@ -138,14 +194,15 @@ pub fn member_descriptor(s: &[u8], t: &[u8], c: usize, method: bool, j: usize) -
 
 // Whether no earlier member of block c has member j's name and descriptor.
 pub fn is_first(s: &[u8], t: &[u8], c: usize, method: bool, j: usize) -> bool
-    requires { ⌜ (c < 16) × (16 * blockSize ≤ length (now t)) × (j < 2 ^ 32) ⌝ }
+    requires { ⌜ (c < 16) × PrintedAt (now s) (now t) c method × (j < rowCount (blockAt (now t) c) method) ⌝ }
     ensures { λ r. ⌜ r ≡ firstAt (now (s .entry)) (blockAt (now (t .entry)) c) method j ⌝ }
 {
-    let p = member_name(s, t, c, method, j);
-    let f = p.start;
-    let g = p.end;
+    let u = member_name(s, t, c, method, j);
+    let f = u.start;
+    let g = u.end;
     let d = member_descriptor(s, t, c, method, j);
     let h = d.start;
     let k = d.end;
-    first_same(s, t, c, method, &s[f..g], &s[h..k]) == j
+    let p = prints::print_at(t, c, method, j);
+    first_of(s, t, c, method, j, &s[f..g], &s[h..k], p) == j
 }

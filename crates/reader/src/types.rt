@@ -1,17 +1,17 @@
 // Types as codes of one byte, brackets + 8 * base; a class that is not known has the first number past the classes. What is malformed is int.
-use crate::descriptors;
-use crate::items::Got;
 use crate::link;
-use crate::names;
+use classfiles::descriptors;
+use texts::items::Got;
+use texts::names;
 ghost use mathlib.Core.Path.{_≡_};
 ghost use mathlib.Core.Bool.{true, cond, false};
 ghost use Prim.Native.Nat.{_+_, _-_, _*_, _<_, _≤_};
 ghost use lib.ListN.{length, getD, take, drop};
-ghost use Rattle.reader.specs.Limits.{maxDimensions};
-ghost use Rattle.reader.specs.Answers.{resAs};
-ghost use Rattle.reader.specs.Descriptors.{dint, namedAt, baseAt, typeAt, resultsAt, fieldTypeAt, classTypeAt, knownDesc};
-ghost use Rattle.reader.specs.Shapes.{seen};
-ghost use Rattle.reader.specs.Blocks.{blockSize, classesIn};
+ghost use Rattle.classfiles.specs.Limits.{maxDimensions};
+ghost use Rattle.texts.specs.Answers.{resAs};
+ghost use Rattle.classfiles.specs.Descriptors.{dint, namedAt, baseAt, typeAt, resultsAt, fieldTypeAt, classTypeAt, knownDesc};
+ghost use Rattle.classfiles.specs.Shapes.{seen};
+ghost use Rattle.classfiles.specs.Blocks.{blockSize, classesIn};
 ghost use Rattle.reader.specs.BuiltIns.{firstClass};
 ghost use Rattle.reader.specs.Program.{numberIn, classNames, descOr};
 ghost use Rattle.reader.specs.Linked.{parentsAt};

@@ -1,12 +1,13 @@
 // Phases A and B whole: the bundle's program in the lent scratch, or the first refusal.
-use crate::bundle;
 use crate::link;
 use crate::link::Linked;
 use crate::linking;
+use crate::printing;
+use classfiles::bundle;
 ghost use Prim.Native.Nat.{_≤_};
 ghost use lib.ListN.{length};
 ghost use Rattle.reader.specs.Access.{Limited};
-ghost use Rattle.reader.specs.TypeCodes.{typesEnd};
+ghost use Rattle.reader.specs.Prints.{printsEnd};
 ghost use Rattle.reader.specs.Whole.{LinkedWhole, IsReading};
 
 // What reading came to; class 65535 where a refusal names none.
@@ -18,20 +19,21 @@ pub struct Reading {
     pub classes: usize,
 }
 
-// Phase B: names, supers, chains, then members.
+// Phase B: names, supers, chains, then members, with a print for each.
 fn linked(s: &[u8], t: &mut [u8], n: usize) -> Linked
-    requires { ⌜ (n ≤ 16) × (typesEnd ≤ length (now t)) × Limited n (now t) ⌝ }
+    requires { ⌜ (n ≤ 16) × (printsEnd ≤ length (now t)) × Limited n (now t) ⌝ }
     ensures { λ r. ⌜ LinkedWhole (now (s .entry)) n r (now (t .entry)) (now (t .exit)) ⌝ }
 {
     let a = link::classes(s, t, n);
     if 0 < a.number {
         return a;
     }
+    printing::print_all(s, t, n);
     linking::members(s, t, n)
 }
 
 pub fn read(s: &[u8], t: &mut [u8]) -> Reading
-    requires { ⌜ typesEnd ≤ length (now t) ⌝ }
+    requires { ⌜ printsEnd ≤ length (now t) ⌝ }
     ensures { λ r. ⌜ IsReading (now (s .entry)) r (now (t .exit)) ⌝ }
 {
     let g = bundle::read_bundle(s, t);

@@ -7,15 +7,15 @@ use lib.ListN.{length, getD}
 use lib.Seq.{getD-drop}
 use Rattle.kit.specs.Claims.{AllT, Ruling, pass, fail, verdict, relabel, fail-pass, then-pass-left, then-pass-right, relabel-pass, pass-all}
 use Rattle.reader.specs.Verdicts.{Fault, fault, Refusal, inMethod, Verdict, each}
-use Rattle.reader.specs.Reading.{Res, ok, bad}
+use Rattle.texts.specs.Reading.{Res, ok, bad}
 use Rattle.reader.specs.BuiltIns.{firstClass}
-use Rattle.reader.specs.Bundle.{ClassFile, bundleAt}
+use Rattle.classfiles.specs.Bundle.{ClassFile, bundleAt}
 use Rattle.reader.specs.Program.{Program, Class, Method, noClass, noMethod, class, method, programOf}
 use Rattle.reader.specs.Link.{uniqueClass, superClaims, chainClaims, memberClaims, linked, Read, refused, program, orRefused, readAs, readBundle}
-use Rattle.verifier.specs.Shape.{shapeClaims}
-use Rattle.verifier.specs.Frames.{Frame, frames}
-use Rattle.verifier.specs.Walk.{walkClaims}
-use Rattle.verifier.specs.Verify.{overMethods, overClasses, bundleClasses, shape, walked, typing, shapeRead, readShaped, typeRead, verdictOf}
+use Rattle.rules.specs.Shape.{shapeClaims}
+use Rattle.rules.specs.Frames.{Frame, frames}
+use Rattle.rules.specs.Walk.{walkClaims}
+use Rattle.shaping.specs.Verify.{overMethods, overClasses, bundleClasses, shape, walked, typing, shapeRead, readShaped, typeRead, verdictOf}
 
 -- what linking has shown of the class files fs
 pub record Linked (fs : List ClassFile) : Type 0 where

@@ -8,17 +8,17 @@ use native.Mathlib.Omega.{arith}
 use lib.ListN.{length, drop, replicate, length-append}
 use lib.Dec.{T, T-not, leb, ltb, eqb→eq, leb→le, le→leb}
 use Rattle.kit.specs.Bools.{T-true, T-false}
-use Rattle.reader.specs.Limits.{maxCalls}
+use Rattle.classfiles.specs.Limits.{maxCalls}
 use Rattle.reader.specs.BuiltIns.{firstClass, nullPointer}
-use Rattle.reader.specs.Descriptors.{Ref, cls, arr, Desc, dref}
+use Rattle.classfiles.specs.Descriptors.{Ref, cls, arr, Desc, dref}
 use Rattle.reader.specs.Program.{Program, Method, class, method, isConstructor, methodSigs, lookup}
-use Rattle.verifier.specs.Instruction.{Instr, MethodRef, invokevirtual, invokestatic}
-use Rattle.verifier.specs.Opcodes.{body}
-use Rattle.verifier.specs.Resolve.{found, isStaticCall, isVirtualCall}
-use Rattle.verifier.specs.Types.{Key, at, Ty, top, ini, tysOf, refFits}
-use Rattle.verifier.specs.States.{State, state, padded, parameterTys, startState}
-use Rattle.verifier.specs.Frames.{Frame}
-use Rattle.verifier.specs.Rule.{rule, arguments, calling}
+use Rattle.rules.specs.Instruction.{Instr, MethodRef, invokevirtual, invokestatic}
+use Rattle.rules.specs.Opcodes.{body}
+use Rattle.rules.specs.Resolve.{found, isStaticCall, isVirtualCall}
+use Rattle.rules.specs.Types.{Key, at, Ty, top, ini, tysOf, refFits}
+use Rattle.rules.specs.States.{State, state, padded, parameterTys, startState}
+use Rattle.rules.specs.Frames.{Frame}
+use Rattle.rules.specs.Rule.{rule, arguments, calling}
 use Rattle.machine.specs.Heap.{Val, empty, ref, typeAt, readyAt, valueFits, paddedLocals}
 use Rattle.machine.specs.Machine.{only, popAny, receiver, withClass, resultRoom, enter}
 use Rattle.machine.specs.Step.{execute, chosen, callStatic, callVirtual}

@@ -7,7 +7,7 @@ use lib.ListN.{length, getD, take, drop, replicate, length-append, length-drop, 
 use lib.Seq.{getD-append-add, getD-set-same, getD-set-other, getD-take, length-take-le}
 use lib.Dec.{T, eqb, eqb→eq, ltb→lt}
 use Rattle.kit.specs.Bools.{T-false}
-use Rattle.reader.specs.Descriptors.{Ref, cls, arr, Desc, dint, dref, knownRef, knownDesc, dimensions, depthOf}
+use Rattle.classfiles.specs.Descriptors.{Ref, cls, arr, Desc, dint, dref, knownRef, knownDesc, dimensions, depthOf}
 use Rattle.machine.specs.Heap.{Heap, cell, intBase, descOf, refOf, baseOf, elementBase, typeAt, sizeAt, readyAt, elementAt, store, need, header, allocate}
 
 -- ---- a store

@@ -6,12 +6,12 @@ use mathlib.Core.List.{[]}
 use mathlib.Core.Logic.{_⊎_, inl, inr}
 use lib.ListN.{length}
 use lib.Dec.{T, eqb, eqb→eq, eqb-refl}
-use Rattle.reader.specs.Names.{Text, init}
-use Rattle.reader.specs.Descriptors.{Ref, cls, arr, Desc, dint, dref, methodTypeAt}
+use Rattle.texts.specs.Names.{Text, init}
+use Rattle.classfiles.specs.Descriptors.{Ref, cls, arr, Desc, dint, dref, methodTypeAt}
 use Rattle.reader.specs.BuiltIns.{throwable, firstClass}
 use Rattle.reader.specs.Program.{Program, methodTypeOr, class, method, classCount, isConstructor, upTo, below, methodSigs, lookup, layout}
 use Rattle.reader.specs.Link.{agrees}
-use Rattle.verifier.specs.Types.{refFits, descFits}
+use Rattle.rules.specs.Types.{refFits, descFits}
 use Rattle.machine.specs.Heap.{intBase}
 use Rattle.soundness.specs.Base.{either-of, left-of, right-of}
 

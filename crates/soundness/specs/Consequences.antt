@@ -8,15 +8,15 @@ use lib.ListN.{length, drop}
 use lib.Dec.{T, eqb-refl, leb→le, ltb→lt}
 use Rattle.kit.specs.Claims.{pass}
 use Rattle.reader.specs.BuiltIns.{firstClass, object}
-use Rattle.reader.specs.Descriptors.{Ref, Desc, cls, arr, dref}
+use Rattle.classfiles.specs.Descriptors.{Ref, Desc, cls, arr, dref}
 use Rattle.reader.specs.Program.{Program, Method, method}
 use Rattle.reader.specs.Link.{program}
-use Rattle.verifier.specs.Instruction.{Instr, nop, aconstnull, pop, dup, dupx1, swap, ineg, arraylength, iaload, aaload, iastore, aastore, athrow, ireturn, areturn, return, iconst, iload, aload, istore, astore, goto, new, iinc, ibin, idiv, ifint, ificmp, ifacmp, ifnull, getfield, putfield, invokevirtual, invokespecial, invokestatic, newarray, checkcast, instanceof, illegal, unresolved}
-use Rattle.verifier.specs.Opcodes.{body, codeOf, instruction}
-use Rattle.verifier.specs.Types.{Key, Ty, top, int, null, ini, uninit, objectTy, isArray, fits, refFits}
-use Rattle.verifier.specs.States.{State, state, topOf}
-use Rattle.verifier.specs.Rule.{rule, calling, constructing}
-use Rattle.verifier.specs.Verify.{readShaped, verdictOf}
+use Rattle.rules.specs.Instruction.{Instr, nop, aconstnull, pop, dup, dupx1, swap, ineg, arraylength, iaload, aaload, iastore, aastore, athrow, ireturn, areturn, return, iconst, iload, aload, istore, astore, goto, new, iinc, ibin, idiv, ifint, ificmp, ifacmp, ifnull, getfield, putfield, invokevirtual, invokespecial, invokestatic, newarray, checkcast, instanceof, illegal, unresolved}
+use Rattle.rules.specs.Opcodes.{body, codeOf, instruction}
+use Rattle.rules.specs.Types.{Key, Ty, top, int, null, ini, uninit, objectTy, isArray, fits, refFits}
+use Rattle.rules.specs.States.{State, state, topOf}
+use Rattle.rules.specs.Rule.{rule, calling, constructing}
+use Rattle.shaping.specs.Verify.{readShaped, verdictOf}
 use Rattle.machine.specs.Heap.{Heap, Val, empty, num, ref, readyAt, isNum, valueFits}
 use Rattle.machine.specs.Machine.{call, Machine, machine, heapOf, Result, next, stopped, stuck}
 use Rattle.machine.specs.Step.{step}

@@ -10,14 +10,14 @@ use lib.ListN.{length, drop, length-append}
 use lib.Dec.{T, eqb, ltb, eqb→eq, leb→le, le→leb, lt→ltb}
 use Rattle.kit.specs.Bools.{T-true}
 use Rattle.reader.specs.BuiltIns.{firstClass}
-use Rattle.reader.specs.Descriptors.{Ref, cls, Desc}
+use Rattle.classfiles.specs.Descriptors.{Ref, cls, Desc}
 use Rattle.reader.specs.Program.{Program, isConstructor, below}
-use Rattle.verifier.specs.Instruction.{Instr, MethodRef, invokespecial}
-use Rattle.verifier.specs.Resolve.{found, isInitCall}
-use Rattle.verifier.specs.Types.{Key, at, self, Ty, top, int, null, ini, uninit, tysOf, refFits}
-use Rattle.verifier.specs.States.{state, operand, replaceAll, parameterTys}
-use Rattle.verifier.specs.Frames.{Frame}
-use Rattle.verifier.specs.Rule.{rule, keyClass, keyOk, initOk, flagAfter, initialised, arguments, constructing}
+use Rattle.rules.specs.Instruction.{Instr, MethodRef, invokespecial}
+use Rattle.rules.specs.Resolve.{found, isInitCall}
+use Rattle.rules.specs.Types.{Key, at, self, Ty, top, int, null, ini, uninit, tysOf, refFits}
+use Rattle.rules.specs.States.{state, operand, replaceAll, parameterTys}
+use Rattle.rules.specs.Frames.{Frame}
+use Rattle.rules.specs.Rule.{rule, keyClass, keyOk, initOk, flagAfter, initialised, arguments, constructing}
 use Rattle.machine.specs.Heap.{Val, ref, typeAt, readyAt, markReady}
 use Rattle.machine.specs.Machine.{popAny, pushOn, enter}
 use Rattle.machine.specs.Step.{execute, withUnready, construct, callInit}

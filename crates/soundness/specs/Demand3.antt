@@ -7,10 +7,10 @@ use lib.ListN.{length}
 use lib.Dec.{T}
 use Rattle.kit.specs.Claims.{pass}
 use Rattle.reader.specs.BuiltIns.{throwable, firstClass}
-use Rattle.reader.specs.Descriptors.{Desc}
+use Rattle.classfiles.specs.Descriptors.{Desc}
 use Rattle.reader.specs.Program.{Program, method, below}
 use Rattle.reader.specs.Link.{program}
-use Rattle.verifier.specs.Verify.{readShaped, verdictOf}
+use Rattle.shaping.specs.Verify.{readShaped, verdictOf}
 use Rattle.machine.specs.Heap.{Heap, Val, valueFits}
 use Rattle.machine.specs.Machine.{End, returned, uncaught, outOfSteps, heapFull, depthFull, stuck}
 use Rattle.machine.specs.Run.{Ran, isEntry, ending, answerOf}

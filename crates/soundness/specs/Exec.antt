@@ -6,15 +6,15 @@ use native.Mathlib.Omega.{arith}
 use lib.ListN.{length, drop}
 use lib.Dec.{T, ltb, leb, leb→le, le→leb}
 use Rattle.kit.specs.Bools.{T-true}
-use Rattle.reader.specs.Descriptors.{Desc, cls}
+use Rattle.classfiles.specs.Descriptors.{Desc, cls}
 use Rattle.reader.specs.Program.{Program, method}
-use Rattle.verifier.specs.Instruction.{Instr, nop, aconstnull, pop, dup, dupx1, swap, ineg, arraylength, iaload, aaload, iastore, aastore, athrow, ireturn, areturn, return, iconst, iload, aload, istore, astore, goto, new, iinc, ibin, idiv, ifint, ificmp, ifacmp, ifnull, getfield, putfield, invokevirtual, invokespecial, invokestatic, newarray, checkcast, instanceof, illegal, unresolved}
-use Rattle.verifier.specs.Opcodes.{codeOf, instruction}
-use Rattle.verifier.specs.Resolve.{found}
-use Rattle.verifier.specs.Types.{int, ini, tyOf, objectTy, throwableTy, intArray, objectArray}
-use Rattle.verifier.specs.States.{State, topOf}
-use Rattle.verifier.specs.Rule.{rule, returned, arguments, calling}
-use Rattle.verifier.specs.Walk.{operandsFit}
+use Rattle.rules.specs.Instruction.{Instr, nop, aconstnull, pop, dup, dupx1, swap, ineg, arraylength, iaload, aaload, iastore, aastore, athrow, ireturn, areturn, return, iconst, iload, aload, istore, astore, goto, new, iinc, ibin, idiv, ifint, ificmp, ifacmp, ifnull, getfield, putfield, invokevirtual, invokespecial, invokestatic, newarray, checkcast, instanceof, illegal, unresolved}
+use Rattle.rules.specs.Opcodes.{codeOf, instruction}
+use Rattle.rules.specs.Resolve.{found}
+use Rattle.rules.specs.Types.{int, ini, tyOf, objectTy, throwableTy, intArray, objectArray}
+use Rattle.rules.specs.States.{State, topOf}
+use Rattle.rules.specs.Rule.{rule, returned, arguments, calling}
+use Rattle.rules.specs.Walk.{operandsFit}
 use Rattle.machine.specs.Heap.{Val}
 use Rattle.machine.specs.Machine.{call, Machine, machine}
 use Rattle.machine.specs.Step.{execute, step}

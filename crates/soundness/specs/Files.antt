@@ -6,13 +6,13 @@ use mathlib.Core.List.{List, [], _∷_}
 use native.Mathlib.Omega.{arith}
 use lib.ListN.{length}
 use lib.Dec.{T, eqb, eqb→eq, ltb}
-use Rattle.reader.specs.Limits.{maxBundle, maxClasses, maxParameters}
-use Rattle.reader.specs.Reading.{Res, ok, bad, andThen, pre, many}
-use Rattle.reader.specs.Names.{Text, isInit, methodName}
-use Rattle.reader.specs.Descriptors.{MethodType, methodTypeAt}
-use Rattle.reader.specs.Pool.{Constant, text, utf8IndexAt}
-use Rattle.reader.specs.Members.{Found, Body, Member, accessAt, nameAt, slots, methodTypeOk, descriptorAt, attributesAt, memberAt}
-use Rattle.reader.specs.Bundle.{ClassFile, magicAt, membersAt, classFileAt, classFilesAt, bundleAt}
+use Rattle.classfiles.specs.Limits.{maxBundle, maxClasses, maxParameters}
+use Rattle.texts.specs.Reading.{Res, ok, bad, andThen, pre, many}
+use Rattle.texts.specs.Names.{Text, isInit, methodName}
+use Rattle.classfiles.specs.Descriptors.{MethodType, methodTypeAt}
+use Rattle.classfiles.specs.Pool.{Constant, text, utf8IndexAt}
+use Rattle.classfiles.specs.Members.{Found, Body, Member, accessAt, nameAt, slots, methodTypeOk, descriptorAt, attributesAt, memberAt}
+use Rattle.classfiles.specs.Bundle.{ClassFile, magicAt, membersAt, classFileAt, classFilesAt, bundleAt}
 use Rattle.soundness.specs.Parsing.{not-ok, then-ok, test-ok, Each, enil, econs, many-each}
 
 -- a method as it was read

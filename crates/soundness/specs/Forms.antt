@@ -8,13 +8,13 @@ use lib.ListN.{length, getD, drop, set}
 use lib.Dec.{T, eqb, leb, leb→le}
 use Rattle.kit.specs.Claims.{AllT}
 use Rattle.reader.specs.BuiltIns.{object, arithmetic, classCast}
-use Rattle.reader.specs.Descriptors.{Ref, cls, Desc, dref}
+use Rattle.classfiles.specs.Descriptors.{Ref, cls, Desc, dref}
 use Rattle.reader.specs.Program.{Program}
-use Rattle.verifier.specs.Instruction.{Instr, Op, Division, Test, nop, aconstnull, pop, dup, dupx1, swap, ineg, iconst, iload, aload, istore, astore, goto, iinc, ibin, idiv, ifint, ificmp, ifacmp, ifnull, checkcast, instanceof, targets}
-use Rattle.verifier.specs.Types.{Ty, top, int, null, ini, uninit, objectTy, isInt, isReference}
-use Rattle.verifier.specs.States.{topOf, operand}
-use Rattle.verifier.specs.Rule.{rule}
-use Rattle.verifier.specs.Walk.{frameAt, intoFrame, branchClaims}
+use Rattle.rules.specs.Instruction.{Instr, Op, Division, Test, nop, aconstnull, pop, dup, dupx1, swap, ineg, iconst, iload, aload, istore, astore, goto, iinc, ibin, idiv, ifint, ificmp, ifacmp, ifnull, checkcast, instanceof, targets}
+use Rattle.rules.specs.Types.{Ty, top, int, null, ini, uninit, objectTy, isInt, isReference}
+use Rattle.rules.specs.States.{topOf, operand}
+use Rattle.rules.specs.Rule.{rule}
+use Rattle.rules.specs.Walk.{frameAt, intoFrame, branchClaims}
 use Rattle.machine.specs.Integers.{holds, wrap}
 use Rattle.machine.specs.Heap.{Val, empty, num, readyAt, isRef, toCell, valueFits}
 use Rattle.machine.specs.Machine.{withInt, localAt, setLocals, push}

@@ -9,16 +9,16 @@ use lib.ListN.{length}
 use lib.Dec.{T, leb, eqb→eq, le→leb}
 use Rattle.kit.specs.Claims.{AllT}
 use Rattle.reader.specs.BuiltIns.{throwable}
-use Rattle.reader.specs.Descriptors.{Ref, cls, Desc}
-use Rattle.reader.specs.Members.{Handler}
+use Rattle.classfiles.specs.Descriptors.{Ref, cls, Desc}
+use Rattle.classfiles.specs.Members.{Handler}
 use Rattle.reader.specs.Program.{Program, Method, method, below}
-use Rattle.verifier.specs.Opcodes.{body, codeOf, sizeAt}
-use Rattle.verifier.specs.Lines.{Line}
-use Rattle.verifier.specs.Shape.{catchClass}
-use Rattle.verifier.specs.Types.{Key, at, self, Ty, ini, refFits}
-use Rattle.verifier.specs.States.{State, state, stack, slotsFit, stateFits}
-use Rattle.verifier.specs.Frames.{Frame}
-use Rattle.verifier.specs.Walk.{frameAt, intoFrame, covers, handlerClaims, handlersClaims, walk, walkClaims}
+use Rattle.rules.specs.Opcodes.{body, codeOf, sizeAt}
+use Rattle.rules.specs.Lines.{Line}
+use Rattle.rules.specs.Shape.{catchClass}
+use Rattle.rules.specs.Types.{Key, at, self, Ty, ini, refFits}
+use Rattle.rules.specs.States.{State, state, stack, slotsFit, stateFits}
+use Rattle.rules.specs.Frames.{Frame}
+use Rattle.rules.specs.Walk.{frameAt, intoFrame, covers, handlerClaims, handlersClaims, walk, walkClaims}
 use Rattle.machine.specs.Heap.{Heap, Val, ref}
 use Rattle.machine.specs.Machine.{Call, call, Machine, machine, End, heapFull, depthFull, Result, next, ended, stopped, only, catcher, Landing, nowhere, landing, landingAt, land, landed}
 use Rattle.soundness.specs.Base.{first-of, second-of, guarded, AllT-left, AllT-right, All2, anil, acons, all2-map, all2-length, same-truth}

@@ -8,7 +8,7 @@ use native.Mathlib.Omega.{arith}
 use lib.ListN.{length, getD, length-append, length-map, List·getD-append, List·getD-map}
 use lib.Seq.{getD-append-add}
 use lib.Dec.{T, eqb, eqb→eq, eqb-refl}
-use Rattle.reader.specs.Descriptors.{dint}
+use Rattle.classfiles.specs.Descriptors.{dint}
 use Rattle.reader.specs.Program.{Program, Field, noField, class, classCount, upTo, below, ownTypes, layoutTo, layout}
 use Rattle.soundness.specs.Base.{either-of}
 use Rattle.soundness.specs.Classes.{Link, parent}

@@ -9,11 +9,11 @@ use lib.ListN.{length, getD, length-append, length-map, List·getD-append, List�
 use lib.Seq.{getD-append-add}
 use lib.Dec.{T, eqb}
 use Rattle.kit.specs.Claims.{Claim, AllT}
-use Rattle.reader.specs.Limits.{maxClasses}
+use Rattle.classfiles.specs.Limits.{maxClasses}
 use Rattle.reader.specs.Verdicts.{each}
-use Rattle.reader.specs.Names.{Text, init}
-use Rattle.reader.specs.Members.{Member, none}
-use Rattle.reader.specs.Bundle.{ClassFile, zero′}
+use Rattle.texts.specs.Names.{Text, init}
+use Rattle.classfiles.specs.Members.{Member, none}
+use Rattle.classfiles.specs.Bundle.{ClassFile, zero′}
 use Rattle.reader.specs.BuiltIns.{BuiltIn, builtIns, firstClass, object, throwable}
 use Rattle.reader.specs.Program.{Program, Class, Method, noClass, noMethod, class, method, classCount, isConstructor, numberIn, classNames, methodOf, classOf, classesFrom, builtInsFrom, programOf, upTo, below, methodSigs, lookup, layoutTo, layout}
 use Rattle.reader.specs.Link.{chainClaims, allKnown, agrees, fieldClaims, methodClaims, memberClaims}

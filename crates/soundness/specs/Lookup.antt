@@ -10,8 +10,8 @@ use lib.ListN.{length, getD, length-map, List·getD-map}
 use lib.Dec.{T, eqb, eqb→eq, eqb-refl, ltb, ltb→lt}
 use Rattle.kit.specs.Bools.{T-true}
 use Rattle.kit.specs.Lists.{eqList, eqList-true, eqList-eq}
-use Rattle.reader.specs.Names.{Text, init, isInit}
-use Rattle.reader.specs.Descriptors.{methodTypeAt}
+use Rattle.texts.specs.Names.{Text, init, isInit}
+use Rattle.classfiles.specs.Descriptors.{methodTypeAt}
 use Rattle.reader.specs.BuiltIns.{firstClass}
 use Rattle.reader.specs.Program.{Program, Class, Method, noMethod, methodTypeOr, Signature, signature, class, method, classCount, upTo, below, sameSignature, indexOf, methodSigs, nowhere, spot, seek, lookup}
 use Rattle.reader.specs.Link.{agrees}

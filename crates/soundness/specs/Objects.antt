@@ -9,14 +9,14 @@ use lib.ListN.{length, drop}
 use lib.Dec.{T, eqb, ltb, eqb→eq, eqb-refl, leb→le, lt→ltb}
 use Rattle.kit.specs.Bools.{T-true}
 use Rattle.reader.specs.BuiltIns.{object, throwable, arrayStore, negativeSize}
-use Rattle.reader.specs.Descriptors.{Ref, cls, arr, Desc, dint, dref, knownDesc}
+use Rattle.classfiles.specs.Descriptors.{Ref, cls, arr, Desc, dint, dref, knownDesc}
 use Rattle.reader.specs.Program.{Program, classCount, layout}
-use Rattle.verifier.specs.Instruction.{Instr, FieldRef, arraylength, iaload, aaload, iastore, aastore, athrow, new, getfield, putfield, newarray}
-use Rattle.verifier.specs.Opcodes.{body, instruction}
-use Rattle.verifier.specs.Lines.{newClassAt}
-use Rattle.verifier.specs.Types.{Key, at, sameKey, Ty, top, int, ini, uninit, tyOf, objectTy, throwableTy, intArray, objectArray, elementTy, isDint, refFits, fits}
-use Rattle.verifier.specs.States.{state, topOf, operand}
-use Rattle.verifier.specs.Rule.{rule}
+use Rattle.rules.specs.Instruction.{Instr, FieldRef, arraylength, iaload, aaload, iastore, aastore, athrow, new, getfield, putfield, newarray}
+use Rattle.rules.specs.Opcodes.{body, instruction}
+use Rattle.rules.specs.Lines.{newClassAt}
+use Rattle.rules.specs.Types.{Key, at, sameKey, Ty, top, int, ini, uninit, tyOf, objectTy, throwableTy, intArray, objectArray, elementTy, isDint, refFits, fits}
+use Rattle.rules.specs.States.{state, topOf, operand}
+use Rattle.rules.specs.Rule.{rule}
 use Rattle.machine.specs.Integers.{negative}
 use Rattle.machine.specs.Heap.{Val, num, ref, cell, elementAt, store, allocate, fromCell, toCell, valueFits}
 use Rattle.machine.specs.Heap.{sizeAt as countAt}

@@ -6,10 +6,10 @@ use mathlib.Core.List.{List, [], _∷_}
 use native.Mathlib.Omega.{arith}
 use lib.ListN.{length, getD}
 use lib.Dec.{T, eqb, ltb}
-use Rattle.reader.specs.Limits.{maxDimensions}
-use Rattle.reader.specs.Reading.{Res, ok, bad, andThen, pre, many, part}
-use Rattle.reader.specs.Names.{Text, className}
-use Rattle.reader.specs.Descriptors.{Desc, MethodType, semicolon, namedAt, baseAt, typeAt, paramsAt, resultsAt, whole, methodTypeAt}
+use Rattle.classfiles.specs.Limits.{maxDimensions}
+use Rattle.texts.specs.Reading.{Res, ok, bad, andThen, pre, many, part}
+use Rattle.texts.specs.Names.{Text, className}
+use Rattle.classfiles.specs.Descriptors.{Desc, MethodType, semicolon, namedAt, baseAt, typeAt, paramsAt, resultsAt, whole, methodTypeAt}
 use Rattle.reader.specs.Program.{methodTypeOr}
 
 pub not-ok : {A B : Type 0} (n p e : ℕ) (x : A) → _≡_ {A = Res A} (bad n p) (ok x e) → B

@@ -6,15 +6,15 @@ use mathlib.Core.List.{List, [], _∷_}
 use native.Mathlib.Omega.{arith}
 use lib.ListN.{length, getD, length-map}
 use lib.Dec.{T, eqb, ltb, ltb→lt}
-use Rattle.reader.specs.Limits.{maxDimensions}
-use Rattle.reader.specs.Reading.{Res, ok, bad}
-use Rattle.reader.specs.Names.{isInit}
-use Rattle.reader.specs.Descriptors.{Ref, cls, arr, dint, dref, classTypeAt, knownRef, knownDesc, dimensions}
-use Rattle.reader.specs.Pool.{Constant, absent, utf8, integer, classAt, fieldref, methodref, nameAndType, entry, text}
+use Rattle.classfiles.specs.Limits.{maxDimensions}
+use Rattle.texts.specs.Reading.{Res, ok, bad}
+use Rattle.texts.specs.Names.{isInit}
+use Rattle.classfiles.specs.Descriptors.{Ref, cls, arr, dint, dref, classTypeAt, knownRef, knownDesc, dimensions}
+use Rattle.classfiles.specs.Pool.{Constant, absent, utf8, integer, classAt, fieldref, methodref, nameAndType, entry, text}
 use Rattle.reader.specs.Program.{Program, Field, Method, noField, Signature, signature, class, method, classCount, isConstructor, below, fieldSigs, methodSigs, indexOf, Spot, nowhere, spot, seek, lookup, layout}
-use Rattle.verifier.specs.Instruction.{Instr, FieldRef, MethodRef, nop, aconstnull, pop, dup, dupx1, swap, ineg, arraylength, iaload, aaload, iastore, aastore, athrow, ireturn, areturn, return, iconst, iload, aload, istore, astore, goto, new, iinc, ibin, idiv, ifint, ificmp, ifacmp, ifnull, getfield, putfield, invokevirtual, invokespecial, invokestatic, newarray, checkcast, instanceof, illegal, unresolved}
-use Rattle.verifier.specs.Resolve.{Resolved, nothing, number, type, field, methodOf, numberOf, knownType, classEntry, withClass, withSignature, fieldFound, methodFound, ownMethod, fieldIn, methodIn, resolveEntry, resolve, asNumber, asType, asField, asMethod, newOf, arrayOf, found, isStaticCall, isVirtualCall, isInitCall}
-use Rattle.verifier.specs.Opcodes.{Operands, Row, row, rows, within, rowIn, rowOf, codeOf, make, instruction}
+use Rattle.rules.specs.Instruction.{Instr, FieldRef, MethodRef, nop, aconstnull, pop, dup, dupx1, swap, ineg, arraylength, iaload, aaload, iastore, aastore, athrow, ireturn, areturn, return, iconst, iload, aload, istore, astore, goto, new, iinc, ibin, idiv, ifint, ificmp, ifacmp, ifnull, getfield, putfield, invokevirtual, invokespecial, invokestatic, newarray, checkcast, instanceof, illegal, unresolved}
+use Rattle.rules.specs.Resolve.{Resolved, nothing, number, type, field, methodOf, numberOf, knownType, classEntry, withClass, withSignature, fieldFound, methodFound, ownMethod, fieldIn, methodIn, resolveEntry, resolve, asNumber, asType, asField, asMethod, newOf, arrayOf, found, isStaticCall, isVirtualCall, isInitCall}
+use Rattle.rules.specs.Opcodes.{Operands, Row, row, rows, within, rowIn, rowOf, codeOf, make, instruction}
 use Rattle.soundness.specs.Classes.{Link, parent, up-refl, up-below, below-trans}
 use Rattle.soundness.specs.Layout.{layout-own, layout-below}
 use Rattle.soundness.specs.Lookup.{At, seek-at, index-at, method-there, method-sig}

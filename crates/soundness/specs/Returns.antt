@@ -6,12 +6,12 @@ use mathlib.Core.List.{List, [], _∷_, _++_, reverseAux}
 use native.Mathlib.Omega.{arith}
 use lib.ListN.{length, drop}
 use lib.Dec.{T}
-use Rattle.reader.specs.Descriptors.{Ref, Desc, dint, dref}
+use Rattle.classfiles.specs.Descriptors.{Ref, Desc, dint, dref}
 use Rattle.reader.specs.Program.{Program}
-use Rattle.verifier.specs.Instruction.{Instr, ireturn, areturn, return}
-use Rattle.verifier.specs.Resolve.{found}
-use Rattle.verifier.specs.Types.{at, Ty, int, tysOf}
-use Rattle.verifier.specs.Rule.{rule, returnsInt, returnsRef, returnsVoid, returned}
+use Rattle.rules.specs.Instruction.{Instr, ireturn, areturn, return}
+use Rattle.rules.specs.Resolve.{found}
+use Rattle.rules.specs.Types.{at, Ty, int, tysOf}
+use Rattle.rules.specs.Rule.{rule, returnsInt, returnsRef, returnsVoid, returned}
 use Rattle.machine.specs.Heap.{Heap, Val, valueFits}
 use Rattle.machine.specs.Machine.{Call, only, giveBack}
 use Rattle.machine.specs.Step.{execute, selfReady, leave, leaveWith}

@@ -9,7 +9,7 @@ use Rattle.kit.specs.Claims.{pass, fail-pass}
 use Rattle.reader.specs.BuiltIns.{firstClass}
 use Rattle.reader.specs.Program.{Program, method}
 use Rattle.reader.specs.Link.{Read, refused, program}
-use Rattle.verifier.specs.Verify.{readShaped, typeRead, verdictOf}
+use Rattle.shaping.specs.Verify.{readShaped, typeRead, verdictOf}
 use Rattle.machine.specs.Laws.{run-answer}
 use Rattle.machine.specs.Run.{Ran, isEntry, ending, Lent, sizesOk, runOf}
 use Rattle.soundness.specs.Demand3.{EndOk}

@@ -9,16 +9,16 @@ use lib.ListN.{length}
 use lib.Dec.{T, eqb, leb, ltb, eqb-refl, ltb→lt}
 use Rattle.kit.specs.Claims.{AllT}
 use Rattle.reader.specs.BuiltIns.{throwable, firstClass, object, nullPointer, arrayIndex}
-use Rattle.reader.specs.Descriptors.{Ref, cls, arr, Desc, dint, dref, dimensions}
+use Rattle.classfiles.specs.Descriptors.{Ref, cls, arr, Desc, dint, dref, dimensions}
 use Rattle.reader.specs.Program.{Program, Method, method, below}
-use Rattle.verifier.specs.Instruction.{Instr, falls}
-use Rattle.verifier.specs.Opcodes.{body, codeOf, sizeAt}
-use Rattle.verifier.specs.Lines.{Line}
-use Rattle.verifier.specs.Types.{Key, self, Ty, top, int, null, ini, uninit, isArray, intArray, objectArray, isDint, tysOf, refFits, descFits, fits}
-use Rattle.verifier.specs.States.{State, state}
-use Rattle.verifier.specs.Frames.{Frame}
-use Rattle.verifier.specs.Rule.{Rule, rule}
-use Rattle.verifier.specs.Walk.{frameAt, intoFrame, walk, onward}
+use Rattle.rules.specs.Instruction.{Instr, falls}
+use Rattle.rules.specs.Opcodes.{body, codeOf, sizeAt}
+use Rattle.rules.specs.Lines.{Line}
+use Rattle.rules.specs.Types.{Key, self, Ty, top, int, null, ini, uninit, isArray, intArray, objectArray, isDint, tysOf, refFits, descFits, fits}
+use Rattle.rules.specs.States.{State, state}
+use Rattle.rules.specs.Frames.{Frame}
+use Rattle.rules.specs.Rule.{Rule, rule}
+use Rattle.rules.specs.Walk.{frameAt, intoFrame, walk, onward}
 use Rattle.machine.specs.Heap.{Heap, Val, ref, refOf, baseOf, typeAt, readyAt, elementAt, allocate, hasRoom, nextRef, valueFits}
 use Rattle.machine.specs.Heap.{sizeAt as countAt}
 use Rattle.machine.specs.Machine.{Call, Result, Here, popArguments, goOn, withRoom, create, throw, fault, receiver, withElement}

@@ -7,16 +7,16 @@ use mathlib.Core.Option.{none, some}
 use native.Mathlib.Omega.{arith}
 use lib.ListN.{length, getD, length-reverse}
 use lib.Dec.{T, eqb, eqb→eq, leb, ltb, leb→le}
-use Rattle.reader.specs.Limits.{maxFrames}
-use Rattle.reader.specs.Reading.{Res, ok, bad, andThen, pre, num2At}
-use Rattle.reader.specs.Members.{Found, none, once, twice}
+use Rattle.classfiles.specs.Limits.{maxFrames}
+use Rattle.texts.specs.Reading.{Res, ok, bad, andThen, pre, num2At}
+use Rattle.classfiles.specs.Members.{Found, none, once, twice}
 use Rattle.reader.specs.Program.{Program, Method}
-use Rattle.verifier.specs.Opcodes.{body}
-use Rattle.verifier.specs.Lines.{lines, isStart}
-use Rattle.verifier.specs.Types.{Ty}
-use Rattle.verifier.specs.States.{State, stack, parameterTys}
-use Rattle.verifier.specs.Frames.{Frame, frame, Written, formAt, good, judged, frameAt, stateOf, framesFrom, tableAt, framesIn, frames}
-use Rattle.verifier.specs.Walk.{frameAt as stateAt}
+use Rattle.rules.specs.Opcodes.{body}
+use Rattle.rules.specs.Lines.{lines, isStart}
+use Rattle.rules.specs.Types.{Ty}
+use Rattle.rules.specs.States.{State, stack, parameterTys}
+use Rattle.rules.specs.Frames.{Frame, frame, Written, formAt, good, judged, frameAt, stateOf, framesFrom, tableAt, framesIn, frames}
+use Rattle.rules.specs.Walk.{frameAt as stateAt}
 use Rattle.soundness.specs.Parsing.{not-ok}
 use Rattle.soundness.specs.Base.{first-of, second-of}
 

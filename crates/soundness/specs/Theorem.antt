@@ -10,11 +10,11 @@ use lib.Dec.{T, ltb, ltb→lt}
 use borrow.Author.Tests.{eq-eqb}
 use Rattle.kit.specs.Bools.{T-true, T-false}
 use Rattle.reader.specs.BuiltIns.{firstClass}
-use Rattle.reader.specs.Descriptors.{Desc, dint, dref}
+use Rattle.classfiles.specs.Descriptors.{Desc, dint, dref}
 use Rattle.reader.specs.Program.{Program, class, method, classCount, isConstructor}
 use Rattle.reader.specs.Link.{program}
-use Rattle.verifier.specs.Frames.{Frame}
-use Rattle.verifier.specs.Verify.{readShaped}
+use Rattle.rules.specs.Frames.{Frame}
+use Rattle.shaping.specs.Verify.{readShaped}
 use Rattle.machine.specs.Heap.{Heap, heap, num}
 use Rattle.machine.specs.Machine.{Machine, heapOf, End, returned, uncaught, outOfSteps, heapFull, depthFull, stuck, Result, next, ended, stopped}
 use Rattle.machine.specs.Step.{step}

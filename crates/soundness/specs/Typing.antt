@@ -10,12 +10,12 @@ use lib.ListN.{length, drop}
 use lib.Dec.{T, eqb, eqb→eq, eqb-refl, leb, leb→le}
 use Rattle.kit.specs.Bools.{T-true, T-false}
 use Rattle.kit.specs.Claims.{AllT}
-use Rattle.reader.specs.Descriptors.{Ref, cls, Desc, dint, dref}
+use Rattle.classfiles.specs.Descriptors.{Ref, cls, Desc, dint, dref}
 use Rattle.reader.specs.Program.{Program, Method, below}
-use Rattle.verifier.specs.Types.{Key, at, self, sameKey, Ty, top, int, null, ini, uninit, isUninit, tyOf, refFits, fits}
-use Rattle.verifier.specs.States.{operand, slotsFit, replaceAll, noCopy}
-use Rattle.verifier.specs.Rule.{keyClass}
-use Rattle.verifier.specs.Walk.{operandsFit}
+use Rattle.rules.specs.Types.{Key, at, self, sameKey, Ty, top, int, null, ini, uninit, isUninit, tyOf, refFits, fits}
+use Rattle.rules.specs.States.{operand, slotsFit, replaceAll, noCopy}
+use Rattle.rules.specs.Rule.{keyClass}
+use Rattle.rules.specs.Walk.{operandsFit}
 use Rattle.machine.specs.Heap.{Val, num, ref, fromCell, toCell}
 use Rattle.soundness.specs.Base.{All2, anil, acons}
 use Rattle.soundness.specs.Classes.{Link, ref-trans}

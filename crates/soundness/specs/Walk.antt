@@ -10,13 +10,13 @@ use lib.Dec.{T, eqb, eqb→eq, leb, ltb}
 use Rattle.kit.specs.Claims.{Claim, AllT, label, label-all}
 use Rattle.reader.specs.Verdicts.{Fault, faultAt}
 use Rattle.reader.specs.Program.{Program, Method}
-use Rattle.verifier.specs.Instruction.{Instr, targets}
-use Rattle.verifier.specs.Opcodes.{body, codeOf, instruction, sizeAt}
-use Rattle.verifier.specs.Lines.{Line, line, linesFrom, lines, isStart}
-use Rattle.verifier.specs.States.{State, flag, stack, stateFits, startState}
-use Rattle.verifier.specs.Frames.{Frame}
-use Rattle.verifier.specs.Rule.{rule}
-use Rattle.verifier.specs.Walk.{frameAt, intoFrame, meets, merged, operandsFit, operandClaims, handlersClaims, branchClaims, instructionClaims, onward, walk, walkClaims}
+use Rattle.rules.specs.Instruction.{Instr, targets}
+use Rattle.rules.specs.Opcodes.{body, codeOf, instruction, sizeAt}
+use Rattle.rules.specs.Lines.{Line, line, linesFrom, lines, isStart}
+use Rattle.rules.specs.States.{State, flag, stack, stateFits, startState}
+use Rattle.rules.specs.Frames.{Frame}
+use Rattle.rules.specs.Rule.{rule}
+use Rattle.rules.specs.Walk.{frameAt, intoFrame, meets, merged, operandsFit, operandClaims, handlersClaims, branchClaims, instructionClaims, onward, walk, walkClaims}
 use Rattle.soundness.specs.Base.{AllT-left, AllT-right}
 
 -- what the scan lists is what the machine fetches

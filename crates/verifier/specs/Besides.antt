@@ -10,18 +10,18 @@ use lib.ListN.{length, getD, take, length-take}
 use lib.Seq.{getD-take, ext-getD}
 use Rattle.kit.specs.Pick.{side}
 use Rattle.kit.specs.Words.{word, putWord, word-by, word-out, word-same, word-other, byte-other, length-put}
-use Rattle.reader.specs.Reading.{Res}
-use Rattle.verifier.specs.Types.{Ty}
-use Rattle.verifier.specs.TypeWords.{typeOf}
-use Rattle.verifier.specs.Slots.{slot, localsAt}
-use Rattle.verifier.specs.SlotLaws.{locals-same}
-use Rattle.verifier.specs.Lines.{Line, lines}
-use Rattle.verifier.specs.Frames.{infoAt}
-use Rattle.verifier.specs.Sites.{front, programAt, methodAt, Here}
-use Rattle.verifier.specs.Marks.{markAt, linesAt, Marked, Ready}
-use Rattle.verifier.specs.ScanLaws.{here-front, lines-front}
+use Rattle.texts.specs.Reading.{Res}
+use Rattle.rules.specs.Types.{Ty}
+use Rattle.rules.specs.TypeWords.{typeOf}
+use Rattle.rules.specs.Slots.{slot, localsAt}
+use Rattle.rules.specs.SlotLaws.{locals-same}
+use Rattle.rules.specs.Lines.{Line, lines}
+use Rattle.rules.specs.Frames.{infoAt}
+use Rattle.rules.specs.Sites.{front, programAt, methodAt, Here}
+use Rattle.shaping.specs.Marks.{markAt, linesAt, Marked, Ready}
+use Rattle.shaping.specs.ScanLaws.{here-front, lines-front}
 use Rattle.verifier.specs.FrameReading.{typeAt}
-use Rattle.verifier.specs.declared.site.Site.{Site}
+use Rattle.rules.specs.declared.site.Site.{Site}
 
 -- n words from w on
 pub record Besides (w n : ℕ) (t u : List ℕ) : Type 0 where

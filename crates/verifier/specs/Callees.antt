@@ -12,22 +12,22 @@ use lib.Seq.{getD-take}
 use borrow.Author.Tests.{lt-ltb, le-ltb, eq-eqb, ne-eqb}
 use Rattle.kit.specs.Pick.{side}
 use Rattle.kit.specs.Words.{word, putWord, word-same, word-other}
-use Rattle.reader.specs.BlockWords.{take-put, listed-same}
+use Rattle.classfiles.specs.BlockWords.{take-put, listed-same}
 use Rattle.reader.specs.BuiltIns.{firstClass}
-use Rattle.reader.specs.Descriptors.{Desc, dint}
+use Rattle.classfiles.specs.Descriptors.{Desc, dint}
 use Rattle.reader.specs.TypeCodes.{codesIn, paramsIn, resultsIn, resultOf, descOf as codeDesc}
 use Rattle.reader.specs.Program.{Program, Method, method}
-use Rattle.verifier.specs.Types.{Ty, tyOf, tysOf}
-use Rattle.verifier.specs.TypeWords.{typeOf}
-use Rattle.verifier.specs.InstructionWords.{descOf}
-use Rattle.verifier.specs.Slots.{slot, stackAt}
-use Rattle.verifier.specs.SlotLaws.{slot-is, take-less}
-use Rattle.verifier.specs.Forms.{givesOf}
-use Rattle.verifier.specs.Groups.{resultsOf}
-use Rattle.verifier.specs.declared.types.Ty as code
-use Rattle.verifier.specs.declared.calls.Params.{Params}
-use Rattle.verifier.specs.declared.forms.Gives.{Gives}
-use Rattle.verifier.specs.declared.forms.Gives.the-variants.{Nothing, Value}
+use Rattle.rules.specs.Types.{Ty, tyOf, tysOf}
+use Rattle.rules.specs.TypeWords.{typeOf}
+use Rattle.rules.specs.InstructionWords.{descOf}
+use Rattle.rules.specs.Slots.{slot, stackAt}
+use Rattle.rules.specs.SlotLaws.{slot-is, take-less}
+use Rattle.rules.specs.Forms.{givesOf}
+use Rattle.rules.specs.Groups.{resultsOf}
+use Rattle.rules.specs.declared.types.Ty as code
+use Rattle.rules.specs.declared.calls.Params.{Params}
+use Rattle.rules.specs.declared.forms.Gives.{Gives}
+use Rattle.rules.specs.declared.forms.Gives.the-variants.{Nothing, Value}
 
 -- how many methods bundle class c has, as its block says
 abbrev pub methodsIn : List ℕ → ℕ → ℕ

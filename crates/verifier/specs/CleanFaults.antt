@@ -6,16 +6,16 @@ use mathlib.Core.List.{List, [], _∷_, _++_}
 use native.Mathlib.Omega.{arith}
 use lib.Dec.{eqb, ltb, leb}
 use lib.ListN.{length, getD}
-use Rattle.reader.specs.Reading.{Res, ok, bad, andThen, pre, many, num2At, u2At}
+use Rattle.texts.specs.Reading.{Res, ok, bad, andThen, pre, many, num2At, u2At}
 use Rattle.reader.specs.Program.{class, isConstructor}
-use Rattle.verifier.specs.Resolve.{Resolved, nothing, number, type, field, methodOf, resolve}
-use Rattle.verifier.specs.Lines.{isNewAt}
-use Rattle.verifier.specs.Types.{at, self, Ty, top, int, null, ini, uninit}
-use Rattle.verifier.specs.Frames.{numberAt, classTy, taggedAt, infoAt}
-use Rattle.verifier.specs.Sites.{front, programAt, methodAt}
-use Rattle.verifier.specs.Marks.{linesAt}
+use Rattle.rules.specs.Resolve.{Resolved, nothing, number, type, field, methodOf, resolve}
+use Rattle.rules.specs.Lines.{isNewAt}
+use Rattle.rules.specs.Types.{at, self, Ty, top, int, null, ini, uninit}
+use Rattle.rules.specs.Frames.{numberAt, classTy, taggedAt, infoAt}
+use Rattle.rules.specs.Sites.{front, programAt, methodAt}
+use Rattle.shaping.specs.Marks.{linesAt}
 use Rattle.verifier.specs.FrameReading.{typeAt}
-use Rattle.verifier.specs.declared.site.Site.{Site}
+use Rattle.rules.specs.declared.site.Site.{Site}
 
 abbrev pub clean : {A : Type 0} → ℕ → Res A → Res A
 clean k (ok v e) = ok v e

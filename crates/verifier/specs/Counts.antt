@@ -7,15 +7,15 @@ use native.Mathlib.Omega.{arith}
 use lib.ListN.{length, drop, length-drop}
 use lib.Dec.{ltb, eqb}
 use Rattle.kit.specs.Bools.{not-so}
-use Rattle.reader.specs.Limits.{maxDimensions}
-use Rattle.reader.specs.Descriptors.{Ref, cls, arr, dint, dref, dimensions}
+use Rattle.classfiles.specs.Limits.{maxDimensions}
+use Rattle.classfiles.specs.Descriptors.{Ref, cls, arr, dint, dref, dimensions}
 use Rattle.reader.specs.Program.{Program, Method}
-use Rattle.verifier.specs.Instruction.{Instr, MethodRef, falls, add, sub, mul, shl, shr, ushr, and, or, xor, quotient, remainder, nop, aconstnull, pop, dup, dupx1, swap, ineg, arraylength, iaload, aaload, iastore, aastore, athrow, ireturn, areturn, return, iload, aload, istore, astore, goto, iinc, ibin, idiv, ifint, ificmp, ifacmp, ifnull, iconst, getfield, putfield, new, newarray, checkcast, instanceof, invokevirtual, invokespecial, invokestatic, illegal, unresolved}
-use Rattle.verifier.specs.Resolve.{Resolved, nothing, number, type, field, methodOf, asNumber, asType, asField, asMethod, newOf, arrayOf, isVirtualCall, isInitCall, isStaticCall}
-use Rattle.verifier.specs.Opcodes.{Operands, Row, row, rows, named, both, target, extend, testOf, minusOne}
-use Rattle.verifier.specs.Types.{Ty}
-use Rattle.verifier.specs.States.{state, stack}
-use Rattle.verifier.specs.Rule.{rule}
+use Rattle.rules.specs.Instruction.{Instr, MethodRef, falls, add, sub, mul, shl, shr, ushr, and, or, xor, quotient, remainder, nop, aconstnull, pop, dup, dupx1, swap, ineg, arraylength, iaload, aaload, iastore, aastore, athrow, ireturn, areturn, return, iload, aload, istore, astore, goto, iinc, ibin, idiv, ifint, ificmp, ifacmp, ifnull, iconst, getfield, putfield, new, newarray, checkcast, instanceof, invokevirtual, invokespecial, invokestatic, illegal, unresolved}
+use Rattle.rules.specs.Resolve.{Resolved, nothing, number, type, field, methodOf, asNumber, asType, asField, asMethod, newOf, arrayOf, isVirtualCall, isInitCall, isStaticCall}
+use Rattle.rules.specs.Opcodes.{Operands, Row, row, rows, named, both, target, extend, testOf, minusOne}
+use Rattle.rules.specs.Types.{Ty}
+use Rattle.rules.specs.States.{state, stack}
+use Rattle.rules.specs.Rule.{rule}
 
 -- a form takes t operands in every state, and where control goes on it has left l in their place
 abbrev Moves : ℕ → ℕ → Instr → Type 0

@@ -13,22 +13,22 @@ use lib.Seq.{take-at}
 use borrow.Author.Tests.{le-leb, lt-leb, not-true, not-false}
 use Rattle.kit.specs.Bools.{not-so}
 use Rattle.kit.specs.Words.{word, putWord, word-same}
-use Rattle.reader.specs.Reading.{Res, ok, bad, andThen, many}
-use Rattle.reader.specs.Answers.{resAs, is-ok, is-bad}
-use Rattle.reader.specs.declared.items.Got.{Got}
-use Rattle.verifier.specs.Types.{Ty}
-use Rattle.verifier.specs.TypeWords.{typeOf}
-use Rattle.verifier.specs.Slots.{slot, localsAt}
-use Rattle.verifier.specs.SlotLaws.{length-locals}
-use Rattle.verifier.specs.Frames.{Written, written, oneOnStack, appended, chopped, infoAt}
-use Rattle.verifier.specs.Sites.{Here, front, programAt, methodAt}
-use Rattle.verifier.specs.Marks.{Ready, linesAt}
+use Rattle.texts.specs.Reading.{Res, ok, bad, andThen, many}
+use Rattle.texts.specs.Answers.{resAs, is-ok, is-bad}
+use Rattle.texts.specs.declared.items.Got.{Got}
+use Rattle.rules.specs.Types.{Ty}
+use Rattle.rules.specs.TypeWords.{typeOf}
+use Rattle.rules.specs.Slots.{slot, localsAt}
+use Rattle.rules.specs.SlotLaws.{length-locals}
+use Rattle.rules.specs.Frames.{Written, written, oneOnStack, appended, chopped, infoAt}
+use Rattle.rules.specs.Sites.{Here, front, programAt, methodAt}
+use Rattle.shaping.specs.Marks.{Ready, linesAt}
 use Rattle.verifier.specs.FrameReading.{typeAt}
 use Rattle.verifier.specs.FrameTypes.{Types}
 use Rattle.verifier.specs.Besides.{Besides, besides-none, besides-put, besides-wide, besides-locals, locals-more}
 use Rattle.verifier.specs.CleanFaults.{clean, clean-then, clean-many, clean-type, many-length}
 use Rattle.verifier.specs.Drawing.{drawing, listIn, stackIn, drawnAs, sized, oneBy, appendBy, chopBy, Drew}
-use Rattle.verifier.specs.declared.site.Site.{Site}
+use Rattle.rules.specs.declared.site.Site.{Site}
 use Rattle.verifier.specs.declared.frame_reader.Drawn.{Drawn}
 
 -- within the limits, or not
@@ -37,11 +37,11 @@ module _ (x : Site) (k e : ℕ) (w : Written) where
   unfolding sized
   size-ok h l = rw (le-leb (length (w .locals)) (x .locals) h, le-leb (length (w .stack)) (x .stack) l)
 
-  size-locals : x .locals < length (w .locals) → sized x k w e ≡ bad 14 k
+  pub size-locals : x .locals < length (w .locals) → sized x k w e ≡ bad 14 k
   unfolding sized
   size-locals h = rw (lt-leb (length (w .locals)) (x .locals) h)
 
-  size-stack : x .stack < length (w .stack) → sized x k w e ≡ bad 14 k
+  pub size-stack : x .stack < length (w .stack) → sized x k w e ≡ bad 14 k
   unfolding sized
   size-stack h = rw (lt-leb (length (w .stack)) (x .stack) h) (go (leb (length (w .locals)) (x .locals)))
     where
@@ -63,7 +63,7 @@ module _ (s t : List ℕ) (x : Site) (k : ℕ) (form : Res Written) where
   pub unfit-drew : (r : Drawn) (u : List ℕ) → r .ok ≡ false → andThen form (sized x k) ≡ bad 14 k → Besides 65184 64 t u → Drew s t x k form r u
   unfit-drew r u z h b = record { is = rw z (sym h); besides = b; locals = λ y. absurd (not-so (sym z ∙ y)); stack = λ y. absurd (not-so (sym z ∙ y)) }
 
-  drawn-drew : (r : Drawn) (u : List ℕ) (d n m a : ℕ) → r ≡ drawing d n m a → form ≡ ok (written d (listIn u n) (stackIn u m)) a → n ≤ x .locals → m ≤ x .stack → Besides 65184 64 t u → Drew s t x k form r u
+  pub drawn-drew : (r : Drawn) (u : List ℕ) (d n m a : ℕ) → r ≡ drawing d n m a → form ≡ ok (written d (listIn u n) (stackIn u m)) a → n ≤ x .locals → m ≤ x .stack → Besides 65184 64 t u → Drew s t x k form r u
   unfolding andThen
   drawn-drew r u d n m a z h l g b = rw z (record {
     is = sym (ap (λ (q : Res Written). andThen q (sized x k)) h ∙ size-ok x k a (written d (listIn u n) (stackIn u m)) (rw (length-locals u 65184 n) l) (rw (length-locals u 65216 m) g));

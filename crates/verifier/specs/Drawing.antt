@@ -5,16 +5,16 @@ use mathlib.Core.Bool.{true, cond}
 use mathlib.Core.List.{List, [], _∷_, _++_}
 use lib.ListN.{length, take}
 use lib.Dec.{leb}
-use Rattle.reader.specs.Reading.{Res, ok, bad, andThen, many}
+use Rattle.texts.specs.Reading.{Res, ok, bad, andThen, many}
 use Rattle.reader.specs.Program.{Program, Method}
-use Rattle.verifier.specs.Opcodes.{body}
-use Rattle.verifier.specs.Types.{Ty}
-use Rattle.verifier.specs.Slots.{localsAt}
-use Rattle.verifier.specs.Frames.{Written, written, oneOnStack, appended, chopped, fullAt, longForm, formAt}
-use Rattle.verifier.specs.Sites.{front, programAt, methodAt}
-use Rattle.verifier.specs.Marks.{linesAt}
+use Rattle.rules.specs.Opcodes.{body}
+use Rattle.rules.specs.Types.{Ty}
+use Rattle.rules.specs.Slots.{localsAt}
+use Rattle.rules.specs.Frames.{Written, written, oneOnStack, appended, chopped, fullAt, longForm, formAt}
+use Rattle.rules.specs.Sites.{front, programAt, methodAt}
+use Rattle.shaping.specs.Marks.{linesAt}
 use Rattle.verifier.specs.Besides.{Besides}
-use Rattle.verifier.specs.declared.site.Site.{Site}
+use Rattle.rules.specs.declared.site.Site.{Site}
 use Rattle.verifier.specs.declared.frame_reader.Drawn.{Drawn}
 
 abbrev pub drawing : ℕ → ℕ → ℕ → ℕ → Drawn

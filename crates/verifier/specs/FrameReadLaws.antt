@@ -10,25 +10,25 @@ use lib.ListN.{length, getD}
 use borrow.Author.Tests.{eq-eqb, ne-eqb, lt-ltb, le-ltb}
 use Rattle.kit.specs.Bools.{not-so}
 use Rattle.kit.specs.Pick.{side}
-use Rattle.reader.specs.Reading.{Res, ok, bad, andThen, num2At, u2At, u4At}
-use Rattle.reader.specs.Answers.{res, resAs, is-ok}
-use Rattle.reader.specs.Descriptors.{Ref}
+use Rattle.texts.specs.Reading.{Res, ok, bad, andThen, num2At, u2At, u4At}
+use Rattle.texts.specs.Answers.{res, resAs, is-ok}
+use Rattle.classfiles.specs.Descriptors.{Ref}
 use Rattle.reader.specs.Program.{Program, Method, class, isConstructor}
-use Rattle.reader.specs.declared.items.Got.{Got}
-use Rattle.verifier.specs.Resolve.{Resolved, by, nothing, number, type, field, methodOf, resolve}
-use Rattle.verifier.specs.Lines.{Line, isNewAt}
-use Rattle.verifier.specs.Types.{at, self, Ty, top, int, null, ini, uninit}
-use Rattle.verifier.specs.TypeWords.{typeOf}
-use Rattle.verifier.specs.TypeCodes.{codeRef}
-use Rattle.verifier.specs.ResolvedWords.{fieldIn, methodIn, resolvedAs, resolvedOf, resolvedIn, wordOf}
-use Rattle.verifier.specs.DecodeLaws.{is-type}
-use Rattle.verifier.specs.Frames.{numberAt, classTy, taggedAt, infoAt}
-use Rattle.verifier.specs.Sites.{front, Sited, programAt, methodAt, Here}
-use Rattle.verifier.specs.SiteLaws.{word-front}
-use Rattle.verifier.specs.Marks.{linesAt, Marked, Ready}
-use Rattle.verifier.specs.MarkLaws.{new-past}
+use Rattle.texts.specs.declared.items.Got.{Got}
+use Rattle.rules.specs.Resolve.{Resolved, by, nothing, number, type, field, methodOf, resolve}
+use Rattle.rules.specs.Lines.{Line, isNewAt}
+use Rattle.rules.specs.Types.{at, self, Ty, top, int, null, ini, uninit}
+use Rattle.rules.specs.TypeWords.{typeOf}
+use Rattle.rules.specs.TypeCodes.{codeRef}
+use Rattle.rules.specs.ResolvedWords.{fieldIn, methodIn, resolvedAs, resolvedOf, resolvedIn, wordOf}
+use Rattle.rules.specs.DecodeLaws.{is-type}
+use Rattle.rules.specs.Frames.{numberAt, classTy, taggedAt, infoAt}
+use Rattle.rules.specs.Sites.{front, Sited, programAt, methodAt, Here}
+use Rattle.shaping.specs.SiteLaws.{word-front}
+use Rattle.shaping.specs.Marks.{linesAt, Marked, Ready}
+use Rattle.shaping.specs.MarkLaws.{new-past}
 use Rattle.verifier.specs.FrameReading.{okType, wrongType, typeNamed, typeClassed, typeMade, typeTagged, typeAt}
-use Rattle.verifier.specs.declared.site.Site.{Site}
+use Rattle.rules.specs.declared.site.Site.{Site}
 
 -- a word of another kind
 no-type : {A : Type 0} (n : A) (make : Ref → A) (v w : ℕ) → (w % 8 ≡ 2 → ⊥) → by n (λ x. n) make (λ f. n) (λ m. n) (resolvedAs v w) ≡ n

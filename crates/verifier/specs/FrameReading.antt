@@ -4,16 +4,16 @@ use mathlib.Core.Path.{_≡_}
 use mathlib.Core.Bool.{cond}
 use mathlib.Core.List.{List}
 use lib.ListN.{length}
-use Rattle.reader.specs.Reading.{Res, ok, bad, andThen}
+use Rattle.texts.specs.Reading.{Res, ok, bad, andThen}
 use Rattle.reader.specs.Program.{class}
-use Rattle.verifier.specs.Resolve.{resolve}
-use Rattle.verifier.specs.Lines.{isNewAt}
-use Rattle.verifier.specs.Types.{at, Ty, uninit}
-use Rattle.verifier.specs.TypeWords.{typeOf}
-use Rattle.verifier.specs.Frames.{numberAt, classTy, taggedAt, infoAt}
-use Rattle.verifier.specs.Sites.{front, programAt, methodAt}
-use Rattle.verifier.specs.Marks.{linesAt}
-use Rattle.verifier.specs.declared.site.Site.{Site}
+use Rattle.rules.specs.Resolve.{resolve}
+use Rattle.rules.specs.Lines.{isNewAt}
+use Rattle.rules.specs.Types.{at, Ty, uninit}
+use Rattle.rules.specs.TypeWords.{typeOf}
+use Rattle.rules.specs.Frames.{numberAt, classTy, taggedAt, infoAt}
+use Rattle.rules.specs.Sites.{front, programAt, methodAt}
+use Rattle.shaping.specs.Marks.{linesAt}
+use Rattle.rules.specs.declared.site.Site.{Site}
 
 -- a type's word; whatever is wrong with frame k
 abbrev pub okType : ℕ → ℕ → Res Ty

@@ -7,17 +7,17 @@ use mathlib.Core.Logic.{_⊎_, inl, inr}
 use native.Mathlib.Omega.{arith}
 use lib.ListN.{length}
 use Rattle.kit.specs.Words.{putWord}
-use Rattle.reader.specs.Reading.{Res, ok, bad, pre, many}
-use Rattle.reader.specs.Answers.{resAs}
-use Rattle.reader.specs.Loops.{pre-nil, many-done, many-stop, many-next}
-use Rattle.reader.specs.declared.items.Got.{Got}
-use Rattle.verifier.specs.Types.{Ty}
-use Rattle.verifier.specs.TypeWords.{typeOf}
-use Rattle.verifier.specs.Slots.{localsAt}
-use Rattle.verifier.specs.Marks.{Ready}
+use Rattle.texts.specs.Reading.{Res, ok, bad, pre, many}
+use Rattle.texts.specs.Answers.{resAs}
+use Rattle.classfiles.specs.Loops.{pre-nil, many-done, many-stop, many-next}
+use Rattle.texts.specs.declared.items.Got.{Got}
+use Rattle.rules.specs.Types.{Ty}
+use Rattle.rules.specs.TypeWords.{typeOf}
+use Rattle.rules.specs.Slots.{localsAt}
+use Rattle.shaping.specs.Marks.{Ready}
 use Rattle.verifier.specs.FrameReading.{typeAt}
 use Rattle.verifier.specs.Besides.{Besides, besides-none, besides-put, besides-types, besides-ready, locals-put}
-use Rattle.verifier.specs.declared.site.Site.{Site}
+use Rattle.rules.specs.declared.site.Site.{Site}
 
 -- n types from q on stand in the words from w on
 pub record Types (s t : List ℕ) (x : Site) (f : List ℕ) (k n w q : ℕ) (r : Got) (u : List ℕ) : Type 0 where

@@ -9,17 +9,17 @@ use lib.ListN.{length, getD, take}
 use lib.Seq.{getD-take, take-take}
 use Rattle.kit.specs.Words.{word, word-take}
 use Rattle.reader.specs.BuiltIns.{firstClass}
-use Rattle.reader.specs.Descriptors.{Desc}
-use Rattle.reader.specs.Blocks.{listed, classesIn}
-use Rattle.reader.specs.BlockWords.{listed-same}
+use Rattle.classfiles.specs.Descriptors.{Desc}
+use Rattle.classfiles.specs.Blocks.{listed, classesIn}
+use Rattle.classfiles.specs.BlockWords.{listed-same}
 use Rattle.reader.specs.Linked.{parentsAt}
 use Rattle.reader.specs.TypeCodes.{typesOf, descOf, codesIn, resultAt, paramsIn, resultsIn}
 use Rattle.reader.specs.Program.{Program, Method, method, class, programOf}
-use Rattle.verifier.specs.Ancestry.{Parents}
-use Rattle.verifier.specs.ResolvedWords.{wordOf, resolvedOf, Flagged}
-use Rattle.verifier.specs.Sites.{front, Sited, Bounded, programAt, methodAt, Here}
-use Rattle.verifier.specs.SiteLaws.{word-front}
-use Rattle.verifier.specs.declared.site.Site.{Site}
+use Rattle.rules.specs.Ancestry.{Parents}
+use Rattle.rules.specs.ResolvedWords.{wordOf, resolvedOf, Flagged}
+use Rattle.rules.specs.Sites.{front, Sited, Bounded, programAt, methodAt, Here}
+use Rattle.shaping.specs.SiteLaws.{word-front}
+use Rattle.rules.specs.declared.site.Site.{Site}
 
 program-front : (s t : List ℕ) (x : Site) → programAt s (front t) x ≡ programAt s t x
 unfolding programAt

@@ -6,11 +6,11 @@ use mathlib.Core.List.{List, [], _∷_}
 use lib.ListN.{length}
 use Rattle.kit.specs.Claims.{fail, verdict}
 use Rattle.reader.specs.Program.{Program, Method}
-use Rattle.verifier.specs.Instruction.{MethodRef, new, invokespecial}
-use Rattle.verifier.specs.Resolve.{found}
-use Rattle.verifier.specs.Types.{Key, at, Ty, top, isUninit}
-use Rattle.verifier.specs.States.{State, state, operand, replaceAll, noCopy}
-use Rattle.verifier.specs.Rule.{rule, constructing, arguments, keyOf}
+use Rattle.rules.specs.Instruction.{MethodRef, new, invokespecial}
+use Rattle.rules.specs.Resolve.{found}
+use Rattle.rules.specs.Types.{Key, at, Ty, top, isUninit}
+use Rattle.rules.specs.States.{State, state, operand, replaceAll, noCopy}
+use Rattle.rules.specs.Rule.{rule, constructing, arguments, keyOf}
 
 abbrev locals : State → List Ty
 locals (state g l s) = l

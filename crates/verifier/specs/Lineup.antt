@@ -14,39 +14,39 @@ use Rattle.kit.specs.Pick.{side}
 use Rattle.kit.specs.Words.{word, word-take}
 use Rattle.kit.specs.Claims.{Claim, Ruling, is, verdict, then, verdict-append, is-zero, is-not, pass-then, fail-then}
 use Rattle.reader.specs.BuiltIns.{firstClass}
-use Rattle.reader.specs.Members.{Body}
-use Rattle.reader.specs.Attributes.{handlersFrom}
+use Rattle.classfiles.specs.Members.{Body}
+use Rattle.classfiles.specs.Attributes.{handlersFrom}
 use Rattle.reader.specs.TypeCodes.{paramsIn, resultsIn, resultAt}
 use Rattle.reader.specs.Program.{Program, Method}
-use Rattle.verifier.specs.Instruction.{Instr, falls}
-use Rattle.verifier.specs.Opcodes.{body, instruction}
-use Rattle.verifier.specs.States.{State, stateFits}
-use Rattle.verifier.specs.Frames.{Frame}
-use Rattle.verifier.specs.Rule.{rule}
-use Rattle.verifier.specs.Walk.{frameAt, meets, merged, instructionClaims, onward}
-use Rattle.verifier.specs.InstructionWords.{instrOf}
-use Rattle.verifier.specs.Ancestry.{lineage, Parents, states-lineage}
-use Rattle.verifier.specs.Slots.{localsAt, stackAt, held, Outside, Roomy}
-use Rattle.verifier.specs.SlotLaws.{locals-same, stack-same, slot-word, take-less}
-use Rattle.verifier.specs.FrameRows.{framesOf, Laid}
-use Rattle.verifier.specs.ResolvedWords.{wordOf, resolvedWord, resolvedOf, resolvedIn, Flagged}
-use Rattle.verifier.specs.Sites.{siteBody, siteCode, Sited, Bounded}
-use Rattle.verifier.specs.SiteLaws.{one-body, decoded}
-use Rattle.verifier.specs.Decoding.{DecodedAt}
-use Rattle.verifier.specs.Handlers.{catchIn, catch-is}
-use Rattle.verifier.specs.Known.{Facts, factsOf, instrAfter}
-use Rattle.verifier.specs.KnownLaws.{Told, left-known}
-use Rattle.verifier.specs.StepClaims.{stepBy, step-known, fallsOf, falls-of, frames-outside, laid-outside, Going}
-use Rattle.verifier.specs.Loads.{current}
+use Rattle.rules.specs.Instruction.{Instr, falls}
+use Rattle.rules.specs.Opcodes.{body, instruction}
+use Rattle.rules.specs.States.{State, stateFits}
+use Rattle.rules.specs.Frames.{Frame}
+use Rattle.rules.specs.Rule.{rule}
+use Rattle.rules.specs.Walk.{frameAt, meets, merged, instructionClaims, onward}
+use Rattle.rules.specs.InstructionWords.{instrOf}
+use Rattle.rules.specs.Ancestry.{lineage, Parents, states-lineage}
+use Rattle.rules.specs.Slots.{localsAt, stackAt, held, Outside, Roomy}
+use Rattle.rules.specs.SlotLaws.{locals-same, stack-same, slot-word, take-less}
+use Rattle.rules.specs.FrameRows.{framesOf, Laid}
+use Rattle.rules.specs.ResolvedWords.{wordOf, resolvedWord, resolvedOf, resolvedIn, Flagged}
+use Rattle.rules.specs.Sites.{siteBody, siteCode, Sited, Bounded}
+use Rattle.shaping.specs.SiteLaws.{one-body, decoded}
+use Rattle.rules.specs.Decoding.{DecodedAt}
+use Rattle.rules.specs.Handlers.{catchIn, catch-is}
+use Rattle.rules.specs.Known.{Facts, factsOf, instrAfter}
+use Rattle.rules.specs.KnownLaws.{Told, left-known}
+use Rattle.rules.specs.StepClaims.{stepBy, step-known, fallsOf, falls-of, frames-outside, laid-outside, Going}
+use Rattle.rules.specs.Loads.{current}
 use Rattle.verifier.specs.Callees.{methodsIn, entryOf, paramsOf, backOf, Typed, Beside, params-same}
 use Rattle.verifier.specs.Preparing.{Prepared}
-use Rattle.verifier.specs.declared.site.Site.{Site}
-use Rattle.verifier.specs.declared.slots.Held.{Held}
-use Rattle.verifier.specs.declared.frames.Rows.{Rows}
-use Rattle.verifier.specs.declared.calls.Known.{Known}
-use Rattle.verifier.specs.declared.types.Kin.{Kin}
+use Rattle.rules.specs.declared.site.Site.{Site}
+use Rattle.rules.specs.declared.slots.Held.{Held}
+use Rattle.rules.specs.declared.frames.Rows.{Rows}
+use Rattle.rules.specs.declared.calls.Known.{Known}
+use Rattle.rules.specs.declared.types.Kin.{Kin}
 use Rattle.verifier.specs.declared.walk.Turn.{Turn}
-use Rattle.verifier.specs.declared.instruction.Instr as code
+use Rattle.rules.specs.declared.instruction.Instr as code
 
 -- where the state at hand stands
 abbrev pub stateAt : ℕ

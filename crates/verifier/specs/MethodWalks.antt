@@ -8,22 +8,22 @@ use lib.ListN.{length, take}
 use Rattle.kit.specs.Claims.{verdict}
 use Rattle.reader.specs.BuiltIns.{firstClass}
 use Rattle.reader.specs.Program.{Program, Method}
-use Rattle.verifier.specs.States.{parameterTys}
-use Rattle.verifier.specs.Frames.{Frame}
-use Rattle.verifier.specs.Walk.{walkClaims}
-use Rattle.verifier.specs.FrameRows.{framesOf, Laid}
-use Rattle.verifier.specs.Sites.{Sited, Bounded}
-use Rattle.verifier.specs.Marks.{ruledAs}
-use Rattle.verifier.specs.StepClaims.{frames-outside, laid-outside}
+use Rattle.rules.specs.States.{parameterTys}
+use Rattle.rules.specs.Frames.{Frame}
+use Rattle.rules.specs.Walk.{walkClaims}
+use Rattle.rules.specs.FrameRows.{framesOf, Laid}
+use Rattle.rules.specs.Sites.{Sited, Bounded}
+use Rattle.shaping.specs.Marks.{ruledAs}
+use Rattle.rules.specs.StepClaims.{frames-outside, laid-outside}
 use Rattle.verifier.specs.Callees.{Typed}
 use Rattle.verifier.specs.Lineup.{front-word, front-sited, front-typed, Walking}
 use Rattle.verifier.specs.Walks.{Walked}
 use Rattle.verifier.specs.Starts.{Started}
-use Rattle.verifier.specs.declared.site.Site.{Site}
-use Rattle.verifier.specs.declared.site.Ruled.{Ruled}
-use Rattle.verifier.specs.declared.slots.Held.{Held}
-use Rattle.verifier.specs.declared.frames.Rows.{Rows}
-use Rattle.verifier.specs.declared.types.Kin.{Kin}
+use Rattle.rules.specs.declared.site.Site.{Site}
+use Rattle.rules.specs.declared.site.Ruled.{Ruled}
+use Rattle.rules.specs.declared.slots.Held.{Held}
+use Rattle.rules.specs.declared.frames.Rows.{Rows}
+use Rattle.rules.specs.declared.types.Kin.{Kin}
 
 -- frames and state have their places
 pub record Placeable (s t : List ℕ) (x : Site) (f : Rows) : Type 0 where

@@ -9,45 +9,45 @@ use lib.ListN.{length, length-reverse}
 use borrow.Author.Tests.{lt-ltb}
 use Rattle.kit.specs.Words.{word}
 use Rattle.reader.specs.BuiltIns.{firstClass}
-use Rattle.reader.specs.Descriptors.{Desc}
+use Rattle.classfiles.specs.Descriptors.{Desc}
 use Rattle.reader.specs.TypeCodes.{resultsIn}
 use Rattle.reader.specs.Program.{Program, Method, method}
-use Rattle.verifier.specs.Instruction.{newClass}
-use Rattle.verifier.specs.Opcodes.{instruction}
-use Rattle.verifier.specs.Resolve.{found}
-use Rattle.verifier.specs.Lines.{newClassAt}
-use Rattle.verifier.specs.Types.{Key, at, self, Ty, tyOf, tysOf}
-use Rattle.verifier.specs.States.{operand}
-use Rattle.verifier.specs.Rule.{keyOf, arguments}
-use Rattle.verifier.specs.TypeWords.{typeOf}
-use Rattle.verifier.specs.TypeLaws.{type-uninit}
-use Rattle.verifier.specs.InstructionWords.{plainOf, branchOf, localOf, stackOf, leaveOf, calleeOf, callOf, instrOf}
-use Rattle.verifier.specs.Slots.{stackAt, operandsOf, Roomy}
-use Rattle.verifier.specs.SlotLaws.{length-stack, stack-same, slot-word}
-use Rattle.verifier.specs.Decoding.{DecodedAt}
-use Rattle.verifier.specs.Sites.{siteCode, Sited}
-use Rattle.verifier.specs.SiteLaws.{decoded}
-use Rattle.verifier.specs.Known.{Facts, factsOf, calleeIn}
-use Rattle.verifier.specs.KnownLaws.{CallTold, Told, key-self}
+use Rattle.rules.specs.Instruction.{newClass}
+use Rattle.rules.specs.Opcodes.{instruction}
+use Rattle.rules.specs.Resolve.{found}
+use Rattle.rules.specs.Lines.{newClassAt}
+use Rattle.rules.specs.Types.{Key, at, self, Ty, tyOf, tysOf}
+use Rattle.rules.specs.States.{operand}
+use Rattle.rules.specs.Rule.{keyOf, arguments}
+use Rattle.rules.specs.TypeWords.{typeOf}
+use Rattle.rules.specs.TypeLaws.{type-uninit}
+use Rattle.rules.specs.InstructionWords.{plainOf, branchOf, localOf, stackOf, leaveOf, calleeOf, callOf, instrOf}
+use Rattle.rules.specs.Slots.{stackAt, operandsOf, Roomy}
+use Rattle.rules.specs.SlotLaws.{length-stack, stack-same, slot-word}
+use Rattle.rules.specs.Decoding.{DecodedAt}
+use Rattle.rules.specs.Sites.{siteCode, Sited}
+use Rattle.shaping.specs.SiteLaws.{decoded}
+use Rattle.rules.specs.Known.{Facts, factsOf, calleeIn}
+use Rattle.rules.specs.KnownLaws.{CallTold, Told, key-self}
 use Rattle.verifier.specs.Callees.{entryOf, paramsOf, backOf, Typed, Back, Beside, Ready}
-use Rattle.verifier.specs.declared.site.Site.{Site}
-use Rattle.verifier.specs.declared.slots.Held.{Held}
-use Rattle.verifier.specs.declared.calls.Known.{Known}
-use Rattle.verifier.specs.declared.instruction.Callee.{Callee}
-use Rattle.verifier.specs.declared.instruction.Plain.{Plain}
-use Rattle.verifier.specs.declared.instruction.Plain.the-variants.{Nop, Aconstnull, Pop, Ineg, Iaload, Iastore, Aastore, Iconst, Ibin, Idiv, Newarray, Checkcast, Instanceof, Getfield, Putfield}
-use Rattle.verifier.specs.declared.instruction.Branch.{Branch}
-use Rattle.verifier.specs.declared.instruction.Branch.the-variants.{Goto, Ifint, Ificmp, Ifacmp, Ifnull}
-use Rattle.verifier.specs.declared.instruction.Local.{Local}
-use Rattle.verifier.specs.declared.instruction.Local.the-variants.{Iload, Aload, Istore, Astore, Iinc}
-use Rattle.verifier.specs.declared.instruction.Stack.{Stack}
-use Rattle.verifier.specs.declared.instruction.Stack.the-variants.{Dup, Dupx1, Swap, Arraylength, Aaload}
-use Rattle.verifier.specs.declared.instruction.Leave.{Leave}
-use Rattle.verifier.specs.declared.instruction.Leave.the-variants.{Athrow, Ireturn, Areturn, Return}
-use Rattle.verifier.specs.declared.instruction.Call.{Call}
-use Rattle.verifier.specs.declared.instruction.Call.the-variants.{Virtual, Special, Static}
-use Rattle.verifier.specs.declared.instruction.Instr as code
-use Rattle.verifier.specs.declared.instruction.Instr.the-variants.{Simple, Jump, OnLocal, OnStack, Leaving, New, Calling, Illegal, Unresolved}
+use Rattle.rules.specs.declared.site.Site.{Site}
+use Rattle.rules.specs.declared.slots.Held.{Held}
+use Rattle.rules.specs.declared.calls.Known.{Known}
+use Rattle.rules.specs.declared.instruction.Callee.{Callee}
+use Rattle.rules.specs.declared.instruction.Plain.{Plain}
+use Rattle.rules.specs.declared.instruction.Plain.the-variants.{Nop, Aconstnull, Pop, Ineg, Iaload, Iastore, Aastore, Iconst, Ibin, Idiv, Newarray, Checkcast, Instanceof, Getfield, Putfield}
+use Rattle.rules.specs.declared.instruction.Branch.{Branch}
+use Rattle.rules.specs.declared.instruction.Branch.the-variants.{Goto, Ifint, Ificmp, Ifacmp, Ifnull}
+use Rattle.rules.specs.declared.instruction.Local.{Local}
+use Rattle.rules.specs.declared.instruction.Local.the-variants.{Iload, Aload, Istore, Astore, Iinc}
+use Rattle.rules.specs.declared.instruction.Stack.{Stack}
+use Rattle.rules.specs.declared.instruction.Stack.the-variants.{Dup, Dupx1, Swap, Arraylength, Aaload}
+use Rattle.rules.specs.declared.instruction.Leave.{Leave}
+use Rattle.rules.specs.declared.instruction.Leave.the-variants.{Athrow, Ireturn, Areturn, Return}
+use Rattle.rules.specs.declared.instruction.Call.{Call}
+use Rattle.rules.specs.declared.instruction.Call.the-variants.{Virtual, Special, Static}
+use Rattle.rules.specs.declared.instruction.Instr as code
+use Rattle.rules.specs.declared.instruction.Instr.the-variants.{Simple, Jump, OnLocal, OnStack, Leaving, New, Calling, Illegal, Unresolved}
 
 -- ---- the method that a call names
 abbrev pub noCallee : Callee

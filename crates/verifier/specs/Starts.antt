@@ -9,22 +9,22 @@ use lib.ListN.{length, getD, take, replicate}
 use Rattle.kit.specs.Pick.{side}
 use Rattle.kit.specs.Words.{word, putWord, word-same, word-other}
 use Rattle.reader.specs.BuiltIns.{firstClass}
-use Rattle.reader.specs.BlockWords.{take-put}
-use Rattle.reader.specs.Descriptors.{cls, Desc, dint}
+use Rattle.classfiles.specs.BlockWords.{take-put}
+use Rattle.classfiles.specs.Descriptors.{cls, Desc, dint}
 use Rattle.reader.specs.TypeCodes.{paramsIn, descOf as codeDesc}
-use Rattle.reader.specs.Members.{Body}
+use Rattle.classfiles.specs.Members.{Body}
 use Rattle.reader.specs.Program.{Program, Method, isConstructor}
-use Rattle.verifier.specs.Opcodes.{body}
-use Rattle.verifier.specs.Types.{self, Ty, top, ini, uninit, tyOf, tysOf}
-use Rattle.verifier.specs.States.{state, padded, receiverTys, parameterTys, startState}
-use Rattle.verifier.specs.TypeWords.{typeOf}
-use Rattle.verifier.specs.Slots.{slot, localsAt, stackAt, held}
-use Rattle.verifier.specs.SlotLaws.{slot-is, take-less}
-use Rattle.verifier.specs.Sites.{siteBody, Sited}
-use Rattle.verifier.specs.SiteLaws.{one-body}
+use Rattle.rules.specs.Opcodes.{body}
+use Rattle.rules.specs.Types.{self, Ty, top, ini, uninit, tyOf, tysOf}
+use Rattle.rules.specs.States.{state, padded, receiverTys, parameterTys, startState}
+use Rattle.rules.specs.TypeWords.{typeOf}
+use Rattle.rules.specs.Slots.{slot, localsAt, stackAt, held}
+use Rattle.rules.specs.SlotLaws.{slot-is, take-less}
+use Rattle.rules.specs.Sites.{siteBody, Sited}
+use Rattle.shaping.specs.SiteLaws.{one-body}
 use Rattle.verifier.specs.Callees.{params-same}
-use Rattle.verifier.specs.declared.site.Site.{Site}
-use Rattle.verifier.specs.declared.slots.Held.{Held}
+use Rattle.rules.specs.declared.site.Site.{Site}
+use Rattle.rules.specs.declared.slots.Held.{Held}
 
 abbrev pub receiverOf : Site → Ty
 receiverOf x = cond (x .constructor) (uninit self) (ini (cls (firstClass + x .class)))

@@ -10,7 +10,7 @@ use borrow.Author.Tests.{lt-ltb}
 use Rattle.kit.specs.Pick.{side}
 use Rattle.kit.specs.Words.{word, word-part}
 use Rattle.reader.specs.BuiltIns.{firstClass, builtIns}
-use Rattle.reader.specs.Descriptors.{Desc}
+use Rattle.classfiles.specs.Descriptors.{Desc}
 use Rattle.reader.specs.Program.{Program, Class, Method, noMethod, builtInMethod, builtInsFrom, programOf, class, method}
 use Rattle.reader.specs.MemberRows.{blockAt, rowCount, countWord}
 use Rattle.reader.specs.MemberAt.{methods-count}

@@ -9,34 +9,34 @@ use lib.Seq.{take-take}
 use borrow.Author.Tests.{ne-eqb}
 use Rattle.kit.specs.Claims.{Ruling, pass, fail, verdict}
 use Rattle.reader.specs.Verdicts.{Fault, fault}
-use Rattle.reader.specs.Reading.{Res, ok, bad}
-use Rattle.reader.specs.Bundle.{ClassFile}
+use Rattle.texts.specs.Reading.{Res, ok, bad}
+use Rattle.classfiles.specs.Bundle.{ClassFile}
 use Rattle.reader.specs.BuiltIns.{firstClass}
 use Rattle.reader.specs.TypeCodes.{paramsIn}
-use Rattle.reader.specs.Blocks.{classesIn}
+use Rattle.classfiles.specs.Blocks.{classesIn}
 use Rattle.reader.specs.Linked.{parentsAt, filesIn}
 use Rattle.reader.specs.MemberRows.{blockAt, rowCount}
 use Rattle.reader.specs.Program.{Program, Method, method, programOf}
-use Rattle.verifier.specs.Frames.{Frame, frames}
-use Rattle.verifier.specs.Walk.{walkClaims}
-use Rattle.verifier.specs.Verify.{overClasses, bundleClasses, walked}
-use Rattle.verifier.specs.FrameRows.{framesOf}
-use Rattle.verifier.specs.Sites.{front, programAt, methodAt, Here}
-use Rattle.verifier.specs.Marks.{ruledAs}
-use Rattle.verifier.specs.Resolving.{block-same}
-use Rattle.verifier.specs.Located.{Prepared}
-use Rattle.verifier.specs.Kept.{few, prepared-kept}
-use Rattle.verifier.specs.ScanLaws.{here-front}
-use Rattle.verifier.specs.States.{parameterTys}
+use Rattle.rules.specs.Frames.{Frame, frames}
+use Rattle.rules.specs.Walk.{walkClaims}
+use Rattle.shaping.specs.Verify.{overClasses, bundleClasses, walked}
+use Rattle.rules.specs.FrameRows.{framesOf}
+use Rattle.rules.specs.Sites.{front, programAt, methodAt, Here}
+use Rattle.shaping.specs.Marks.{ruledAs}
+use Rattle.shaping.specs.Resolving.{block-same}
+use Rattle.shaping.specs.Located.{Prepared}
+use Rattle.shaping.specs.Kept.{few, prepared-kept}
+use Rattle.shaping.specs.ScanLaws.{here-front}
+use Rattle.rules.specs.States.{parameterTys}
 use Rattle.verifier.specs.Callees.{Typed}
 use Rattle.verifier.specs.TypedTables.{typed-tables}
 use Rattle.verifier.specs.MethodWalks.{MethodWalked}
 use Rattle.verifier.specs.WalkHere.{walked-here}
-use Rattle.verifier.specs.Phases.{Readied, programNow, typingBy, judgedAt, ofAll, Judged}
-use Rattle.verifier.specs.Passing.{Typable}
-use Rattle.verifier.specs.declared.site.Site.{Site}
-use Rattle.verifier.specs.declared.site.Ruled.{Ruled}
-use Rattle.verifier.specs.declared.frames.Rows.{Rows}
+use Rattle.shaping.specs.Phases.{Readied, programNow, typingBy, judgedAt, ofAll, Judged}
+use Rattle.shaping.specs.Passing.{Typable}
+use Rattle.rules.specs.declared.site.Site.{Site}
+use Rattle.rules.specs.declared.site.Ruled.{Ruled}
+use Rattle.rules.specs.declared.frames.Rows.{Rows}
 
 -- what has passed has passed while the front stands
 pub passes-kept : (judge : Program → Method → Ruling Fault) (s : List ℕ) (n : ℕ) (t u : List ℕ) → front u ≡ front t → ofAll judge s n t ≡ pass → ofAll judge s n u ≡ pass
@@ -83,7 +83,7 @@ module _ (s : List ℕ) (n c m : ℕ) (x : Site) (t u v : List ℕ) (h : Readied
       below : take 103040 v ≡ take 103040 (front t)
       below = sym (take-take 103040 187008 v (omega arith)) ∙ ap (take 103040) same
 
-  few-now : length (paramsIn v (64 * x .class + x .method)) ≤ 16
+  pub few-now : length (paramsIn v (64 * x .class + x .method)) ≤ 16
   few-now =
       subst (λ (k : ℕ). length (paramsIn v (64 * k + x .method)) ≤ 16) (sym (y .located .class))
       (subst (λ (k : ℕ). length (paramsIn v (64 * c + k)) ≤ 16) (sym (y .located .method)) (few s n v v (prepared .tables) refl (λ p a b. refl) c m l row))

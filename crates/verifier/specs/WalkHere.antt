@@ -7,23 +7,23 @@ use lib.ListN.{length, getD, take}
 use lib.Seq.{getD-take}
 use Rattle.kit.specs.Words.{word, word-take}
 use Rattle.kit.specs.Claims.{verdict}
-use Rattle.reader.specs.BlockWords.{listed-same, length-listed}
+use Rattle.classfiles.specs.BlockWords.{listed-same, length-listed}
 use Rattle.reader.specs.BuiltIns.{firstClass}
 use Rattle.reader.specs.TypeCodes.{typesOf, codesIn, paramsIn, resultsIn, resultAt, descOf as codeDesc}
 use Rattle.reader.specs.Program.{Program, Method}
-use Rattle.verifier.specs.States.{parameterTys}
-use Rattle.verifier.specs.Walk.{walkClaims}
-use Rattle.verifier.specs.Ancestry.{Parents}
-use Rattle.verifier.specs.FrameRows.{framesOf}
-use Rattle.verifier.specs.ResolvedWords.{wordOf, resolvedOf, Flagged}
-use Rattle.verifier.specs.Sites.{front, Sited, Here, programAt, methodAt}
-use Rattle.verifier.specs.SiteLaws.{word-front}
-use Rattle.verifier.specs.Marks.{ruledAs}
+use Rattle.rules.specs.States.{parameterTys}
+use Rattle.rules.specs.Walk.{walkClaims}
+use Rattle.rules.specs.Ancestry.{Parents}
+use Rattle.rules.specs.FrameRows.{framesOf}
+use Rattle.rules.specs.ResolvedWords.{wordOf, resolvedOf, Flagged}
+use Rattle.rules.specs.Sites.{front, Sited, Here, programAt, methodAt}
+use Rattle.shaping.specs.SiteLaws.{word-front}
+use Rattle.shaping.specs.Marks.{ruledAs}
 use Rattle.verifier.specs.Callees.{Typed}
 use Rattle.verifier.specs.MethodWalks.{MethodWalked}
-use Rattle.verifier.specs.declared.site.Site.{Site}
-use Rattle.verifier.specs.declared.site.Ruled.{Ruled}
-use Rattle.verifier.specs.declared.frames.Rows.{Rows}
+use Rattle.rules.specs.declared.site.Site.{Site}
+use Rattle.rules.specs.declared.site.Ruled.{Ruled}
+use Rattle.rules.specs.declared.frames.Rows.{Rows}
 
 -- what the front says, the scratch says
 module _ (t u : List ℕ) (b : (i : ℕ) → i < 187008 → getD u i 0 ≡ getD t i 0) (k : ℕ) (l : k < 1024) where

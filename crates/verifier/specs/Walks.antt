@@ -13,27 +13,27 @@ use borrow.Author.Tests.{lt-ltb, le-ltb, eq-eqb, ne-eqb}
 use Rattle.kit.specs.Claims.{Claim, claim, Ruling, pass, fail, is, verdict, then, relabel, label, verdict-append, verdict-label, verdict-none, verdict-no, is-zero, is-not, pass-then, fail-then}
 use Rattle.reader.specs.Verdicts.{Fault, fault, faultAt}
 use Rattle.reader.specs.Program.{Program, Method}
-use Rattle.verifier.specs.Opcodes.{codeOf, instruction, sizeAt}
-use Rattle.verifier.specs.Lines.{Line, linesFrom, lines}
-use Rattle.verifier.specs.States.{State, startState}
-use Rattle.verifier.specs.Frames.{Frame}
-use Rattle.verifier.specs.Rule.{rule}
-use Rattle.verifier.specs.Walk.{frameAt, meets, merged, onward, instructionClaims, ending, walk, walkClaims}
-use Rattle.verifier.specs.Slots.{held}
-use Rattle.verifier.specs.FrameRows.{framesOf}
-use Rattle.verifier.specs.Sites.{siteCode, Sited}
-use Rattle.verifier.specs.SiteLaws.{code-is}
-use Rattle.verifier.specs.Loads.{current}
-use Rattle.verifier.specs.Marks.{ruledAs}
+use Rattle.rules.specs.Opcodes.{codeOf, instruction, sizeAt}
+use Rattle.rules.specs.Lines.{Line, linesFrom, lines}
+use Rattle.rules.specs.States.{State, startState}
+use Rattle.rules.specs.Frames.{Frame}
+use Rattle.rules.specs.Rule.{rule}
+use Rattle.rules.specs.Walk.{frameAt, meets, merged, onward, instructionClaims, ending, walk, walkClaims}
+use Rattle.rules.specs.Slots.{held}
+use Rattle.rules.specs.FrameRows.{framesOf}
+use Rattle.rules.specs.Sites.{siteCode, Sited}
+use Rattle.shaping.specs.SiteLaws.{code-is}
+use Rattle.rules.specs.Loads.{current}
+use Rattle.shaping.specs.Marks.{ruledAs}
 use Rattle.verifier.specs.Callees.{Typed}
 use Rattle.verifier.specs.Lineup.{lineClaims, lineAfter, front-word, front-sited, front-typed, Walking, LineDone}
-use Rattle.verifier.specs.StepClaims.{frames-outside, Going}
-use Rattle.verifier.specs.declared.site.Site.{Site}
-use Rattle.verifier.specs.declared.slots.Held.{Held}
-use Rattle.verifier.specs.declared.frames.Rows.{Rows}
-use Rattle.verifier.specs.declared.types.Kin.{Kin}
+use Rattle.rules.specs.StepClaims.{frames-outside, Going}
+use Rattle.rules.specs.declared.site.Site.{Site}
+use Rattle.rules.specs.declared.slots.Held.{Held}
+use Rattle.rules.specs.declared.frames.Rows.{Rows}
+use Rattle.rules.specs.declared.types.Kin.{Kin}
 use Rattle.verifier.specs.declared.walk.Turn.{Turn}
-use Rattle.verifier.specs.declared.site.Ruled.{Ruled}
+use Rattle.rules.specs.declared.site.Ruled.{Ruled}
 
 -- the answer at the code's end
 pub record Ended (live : Bool) (n : ℕ) (r : Ruled) : Type 0 where

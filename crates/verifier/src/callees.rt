@@ -2,26 +2,26 @@
 ghost use mathlib.Core.Path.{_≡_};
 ghost use Prim.Native.Nat.{_+_, _*_, _<_, _≤_, _/_};
 ghost use lib.ListN.{length};
-ghost use Rattle.reader.specs.Descriptors.{dint};
+ghost use Rattle.classfiles.specs.Descriptors.{dint};
 ghost use Rattle.reader.specs.TypeCodes.{paramsIn};
-ghost use Rattle.verifier.specs.TypeWords.{typeOf};
-ghost use Rattle.verifier.specs.Slots.{Roomy};
+ghost use Rattle.rules.specs.TypeWords.{typeOf};
+ghost use Rattle.rules.specs.Slots.{Roomy};
 ghost use Rattle.verifier.specs.Callees.{entryOf, paramsOf, backOf, Back, Beside, Listed, Ready};
 ghost use Rattle.verifier.specs.Preparing.{noCallee, calleeAt, madeAt, MadeBy, Prepared};
-ghost use Rattle.verifier.specs.Known.{calleeIn};
-use crate::calls::Known;
-use crate::calls::Params;
-use crate::codes::described;
-use crate::decode;
-use crate::forms::Gives;
-use crate::instruction::Call;
-use crate::instruction::Callee;
-use crate::instruction::Instr;
-use crate::site::Site;
-use crate::slots::Held;
-use crate::slots::peek;
-use crate::types::Ty;
+ghost use Rattle.rules.specs.Known.{calleeIn};
 use reader::types;
+use rules::calls::Known;
+use rules::calls::Params;
+use rules::codes::described;
+use rules::decode;
+use rules::forms::Gives;
+use rules::instruction::Call;
+use rules::instruction::Callee;
+use rules::instruction::Instr;
+use rules::site::Site;
+use rules::slots::Held;
+use rules::slots::peek;
+use rules::types::Ty;
 
 fn callee_in(c: Call) -> Callee
     ensures { λ r. ⌜ r ≡ calleeIn c ⌝ }

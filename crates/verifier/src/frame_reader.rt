@@ -2,19 +2,19 @@
 ghost use mathlib.Core.Path.{_≡_};
 ghost use mathlib.Core.Bool.{false};
 ghost use Prim.Native.Nat.{_+_, _^_, _<_, _≤_};
-ghost use Rattle.reader.specs.Answers.{resAs};
-ghost use Rattle.verifier.specs.TypeWords.{typeOf};
-ghost use Rattle.verifier.specs.Marks.{Ready};
+ghost use Rattle.texts.specs.Answers.{resAs};
+ghost use Rattle.rules.specs.TypeWords.{typeOf};
+ghost use Rattle.shaping.specs.Marks.{Ready};
 ghost use Rattle.verifier.specs.FrameReading.{okType, wrongType, typeNamed, typeClassed, typeMade, typeTagged, typeAt};
 ghost use Rattle.verifier.specs.FrameTypes.{Types};
 ghost use Rattle.verifier.specs.Drawing.{drawing, oneBy, appendBy, chopBy, Drew};
-use crate::codes;
-use crate::decode;
-use crate::marks;
-use crate::site::Site;
-use crate::types::Ty;
-use reader::items;
-use reader::items::Got;
+use rules::codes;
+use rules::decode;
+use rules::site::Site;
+use rules::types::Ty;
+use shaping::marks;
+use texts::items;
+use texts::items::Got;
 
 // A type's word and the position past it.
 fn ty(w: u32, e: usize) -> Got
@@ -108,7 +108,7 @@ fn tagged_type(s: &[u8], t: &[u8], x: Site, f: &[u8], k: usize, tag: usize, e: u
 }
 
 // The type at q of the table f.
-fn type_at(s: &[u8], t: &[u8], x: Site, f: &[u8], k: usize, q: usize) -> Got
+pub fn type_at(s: &[u8], t: &[u8], x: Site, f: &[u8], k: usize, q: usize) -> Got
     requires { ⌜ Ready (now s) (now t) x ⌝ }
     ensures { λ r. ⌜ (resAs r (typeOf (r .val)) ≡ typeAt (now (s .entry)) (now (t .entry)) x (now (f .entry)) k q) × (r .val < 2 ^ 32) ⌝ }
 {
@@ -119,7 +119,16 @@ fn type_at(s: &[u8], t: &[u8], x: Site, f: &[u8], k: usize, q: usize) -> Got
 }
 
 // n types from q on, into the words from w on.
-fn types(s: &[u8], t: &mut [u8], x: Site, f: &[u8], k: usize, n: usize, w: usize, q: usize) -> Got
+pub fn types(
+    s: &[u8],
+    t: &mut [u8],
+    x: Site,
+    f: &[u8],
+    k: usize,
+    n: usize,
+    w: usize,
+    q: usize,
+) -> Got
     requires { ⌜ Ready (now s) (now t) x × (65184 ≤ w) × (w + n ≤ 65536) ⌝ }
     ensures { λ r. ⌜ Types (now (s .entry)) (now (t .entry)) x (now (f .entry)) k n w q r (now (t .exit)) ⌝ }
 {
@@ -150,7 +159,7 @@ pub struct Drawn {
     pub at: usize,
 }
 
-fn sketched(delta: usize, locals: usize, stack: usize, at: usize) -> Drawn
+pub fn sketched(delta: usize, locals: usize, stack: usize, at: usize) -> Drawn
     ensures { λ r. ⌜ r ≡ drawing delta locals stack at ⌝ }
 {
     Drawn {
@@ -162,7 +171,7 @@ fn sketched(delta: usize, locals: usize, stack: usize, at: usize) -> Drawn
     }
 }
 
-fn unfit() -> Drawn
+pub fn unfit() -> Drawn
     ensures { λ r. ⌜ r .ok ≡ false ⌝ }
 {
     Drawn {
@@ -175,7 +184,7 @@ fn unfit() -> Drawn
 }
 
 // One operand, at q, with n locals before it.
-fn one_operand(
+pub fn one_operand(
     s: &[u8],
     t: &mut [u8],
     x: Site,
@@ -200,7 +209,7 @@ fn one_operand(
 }
 
 // m locals more, from q on.
-fn append(
+pub fn append(
     s: &[u8],
     t: &mut [u8],
     x: Site,
@@ -225,7 +234,7 @@ fn append(
 }
 
 // The last m of n locals are dropped.
-fn chop(
+pub fn chop(
     s: &[u8],
     t: &[u8],
     x: Site,

@@ -1,24 +1,9 @@
-// Phases C and D. The definitions are in specs/.
+// Phase D and the verdict of a bundle. The definitions are in specs/.
 pub mod callees;
-pub mod calls;
-pub mod codes;
-pub mod decode;
-pub mod dispatch;
-pub mod forms;
+pub mod frame_forms;
 pub mod frame_reader;
-pub mod frames;
-pub mod handlers;
-pub mod instruction;
-pub mod locate;
-pub mod marks;
-pub mod opcodes;
-pub mod phases;
-pub mod resolve;
-pub mod shape;
-pub mod site;
-pub mod slots;
+pub mod frame_table;
 pub mod start;
-pub mod steps;
-pub mod types;
+pub mod typing;
 pub mod verify;
 pub mod walk;

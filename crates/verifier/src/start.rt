@@ -3,14 +3,14 @@ ghost use mathlib.Core.Path.{_≡_};
 ghost use Prim.Native.Nat.{_<_, _≤_, _/_};
 ghost use lib.ListN.{length, getD};
 ghost use Rattle.reader.specs.TypeCodes.{paramsIn};
-ghost use Rattle.verifier.specs.Types.{top, tysOf};
-ghost use Rattle.verifier.specs.TypeWords.{typeOf};
+ghost use Rattle.rules.specs.Types.{top, tysOf};
+ghost use Rattle.rules.specs.TypeWords.{typeOf};
 ghost use Rattle.verifier.specs.Starts.{receiverOf, startTys, Filled, Started};
-use crate::codes::described;
-use crate::site::Site;
-use crate::slots::Held;
-use crate::types::Ty;
 use reader::types;
+use rules::codes::described;
+use rules::site::Site;
+use rules::slots::Held;
+use rules::types::Ty;
 
 fn receiver(x: Site) -> Ty
     requires { ⌜ x .class < 16 ⌝ }

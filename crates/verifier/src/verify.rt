@@ -1,48 +1,54 @@
-// All phases in order.
-use crate::phases;
-use crate::resolve;
+// All phases in order, and what others call.
+use crate::typing;
+use reader::outlet;
 use reader::outlet::Answer;
-use reader::whole;
-ghost use Prim.Native.Nat.{_≤_};
-ghost use lib.ListN.{length};
-ghost use Rattle.verifier.specs.Verified.{IsShaped};
+use shaping::whole::read_shaped;
+ghost use mathlib.Core.Path.{_≡_};
+ghost use Rattle.reader.specs.Outlet.{exported};
+ghost use Rattle.shaping.specs.Verified.{IsVerified, verifyExport};
 
-// What phases A to C came to: whether they passed, and of how many classes; otherwise the refusal.
-pub struct Shaped {
-    pub ok: bool,
-    pub answer: Answer,
-    pub classes: usize,
-}
-
-fn read_shaped(s: &[u8], t: &mut [u8]) -> Shaped
-    requires { ⌜ 262144 ≤ length (now t) ⌝ }
-    ensures { λ r. ⌜ IsShaped (now (s .entry)) r (now (t .exit)) ⌝ }
+// The bundle's verdict; the scratch ends all zero, unless it is too short (20).
+pub fn verify(s: &[u8], t: &mut [u8]) -> Answer
+    ensures { λ r. ⌜ IsVerified (now (s .entry)) (now (t .entry)) r (now (t .exit)) ⌝ }
 {
-    let r = whole::read(s, t);
-    if !r.ok {
-        let answer = Answer {
-            number: r.number,
-            class: r.class,
+    if t.len() < 262144 {
+        return Answer {
+            number: 20,
+            class: 65535,
             method: 65535,
-            place: r.place,
-        };
-        return Shaped {
-            ok: false,
-            answer,
-            classes: 0,
+            place: 0,
         };
     }
-    resolve::prepare(s, t, r.classes);
-    let v = phases::shape_all(s, t, r.classes);
-    let answer = Answer {
+    let r = read_shaped(s, t);
+    if !r.ok {
+        kit::clear(t);
+        return r.answer;
+    }
+    let v = typing::type_all(s, t, r.classes);
+    kit::clear(t);
+    Answer {
         number: v.number as usize,
         class: v.class,
         method: v.method,
         place: v.place,
-    };
-    Shaped {
-        ok: v.number == 0,
-        answer,
-        classes: r.classes,
     }
+}
+
+#[no_mangle]
+pub extern "C" fn flosquedo_scratch_size() -> usize
+    ensures { λ r. ⌜ r ≡ 262144 ⌝ }
+{
+    262144
+}
+
+#[no_mangle]
+pub extern "C" fn flosquedo_verify(bundle: &[u8], scratch: &mut [u8], result: &mut [u8]) -> u32
+    ensures { λ r. ⌜ exported r (now (scratch .exit)) (now (result .exit)) ≡ verifyExport (now (bundle .entry)) (now (scratch .entry)) (now (result .entry)) ⌝ }
+{
+    if result.len() != 64 {
+        return 20;
+    }
+    let a = verify(bundle, scratch);
+    outlet::put_result(result, a.number, a.class, a.method, a.place);
+    a.number as u32
 }

@@ -1,4 +1,4 @@
-//! What the tests share: the program, the vectors and a place for files.
+//! What the tests share: the program, the sample and a place for files.
 #![allow(dead_code)]
 
 use std::ffi::OsStr;
@@ -36,10 +36,6 @@ pub fn agent() -> PathBuf {
     Path::new(env!("CARGO_MANIFEST_DIR")).join("..")
 }
 
-pub fn vectors() -> PathBuf {
-    agent().join("vectors")
-}
-
 pub fn sample() -> PathBuf {
     agent().join("samples/Invoices.bundle")
 }
@@ -64,15 +60,6 @@ pub fn written(directory: &Path, name: &str, bytes: &[u8]) -> String {
     let path = directory.join(name);
     fs::write(&path, bytes).expect("a file can be written");
     shown(&path)
-}
-
-/// Rows of a table of the vectors without the heading.
-pub fn rows(table: &str) -> Vec<Vec<String>> {
-    let text = fs::read_to_string(vectors().join(table)).expect("the table is there");
-    let lines = text.lines().skip(1);
-    lines
-        .map(|line| line.split('\t').map(str::to_string).collect())
-        .collect()
 }
 
 /// The classes of the sample, cut apart at the second magic number.

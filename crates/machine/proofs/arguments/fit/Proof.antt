@@ -3,7 +3,7 @@ use mathlib.Core.Path.{_≡_}
 use native.Mathlib.Omega.{arith}
 use Rattle.kit.specs.Pick.{calls}
 use Rattle.kit.specs.Scan.{firstNot, alls}
-use Rattle.verifier.specs.Ancestry.{lineage}
+use Rattle.rules.specs.Ancestry.{lineage}
 use Rattle.machine.specs.Arguments.{argFits}
 use Rattle.machine.proofs.arguments.fit.Statement.{statement}
 use Rattle.machine.proofs.arguments.fit.Tie as tie

@@ -1,15 +1,15 @@
 use Prim.Native.Nat.{_+_, _*_, _-_, _≤_}
 use mathlib.Core.Path.{_≡_, refl}
 use native.Mathlib.Omega.{arith}
-use Rattle.reader.specs.Attributes.{handlersFrom}
-use Rattle.verifier.specs.Ancestry.{lineage}
+use Rattle.classfiles.specs.Attributes.{handlersFrom}
+use Rattle.rules.specs.Ancestry.{lineage}
 use Rattle.machine.specs.Catching.{caughtIn, catcherBy, search-none, search-hit, search-next}
 use Rattle.machine.proofs.catching.catcher.Statement.{statement}
 use Rattle.machine.proofs.catching.catcher.Tie as tie
 use Rattle.machine.proofs.catching.catcher.Reads as reads
 use Rattle.machine.proofs.catching.catcher.Lts as lts
 use Rattle.machine.proofs.catching.catches.Reads as catches-reads
-use Rattle.reader.proofs.items.u2_at.Reads as u2-at-reads
+use Rattle.texts.proofs.items.u2_at.Reads as u2-at-reads
 
 abbrev Inv-loop : tie.InvT-loop
 Inv-loop s t kin x o c q₀ left₀ q left = (left ≤ x .entries) × ((q ≡ x .at + 8 * (x .entries - left)) × (catcherBy (lineage t (kin .at) (kin .count)) (caughtIn t (x .class) (x .classes)) o c (handlersFrom s left q) ≡ catcherBy (lineage t (kin .at) (kin .count)) (caughtIn t (x .class) (x .classes)) o c (handlersFrom s (x .entries) (x .at))))

@@ -7,8 +7,8 @@ use Rattle.machine.proofs.catching.catches.Reads as reads
 use Rattle.machine.proofs.catching.catches.Lts as lts
 use Rattle.machine.proofs.catching.catch_class.Reads as catch-class-reads
 use Rattle.machine.proofs.catching.covers.Reads as covers-reads
-use Rattle.reader.proofs.items.u2_at.Reads as u2-at-reads
-use Rattle.verifier.proofs.types.is_below.Reads as is-below-reads
+use Rattle.texts.proofs.items.u2_at.Reads as u2-at-reads
+use Rattle.rules.proofs.types.is_below.Reads as is-below-reads
 
 covers-requires : tie.Need-covers-requires
 covers-requires c κs = search needs

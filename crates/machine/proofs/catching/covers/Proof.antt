@@ -4,7 +4,7 @@ use Rattle.machine.proofs.catching.covers.Statement.{statement}
 use Rattle.machine.proofs.catching.covers.Tie as tie
 use Rattle.machine.proofs.catching.covers.Reads as reads
 use Rattle.machine.proofs.catching.covers.Lts as lts
-use Rattle.reader.proofs.items.u2_at.Reads as u2-at-reads
+use Rattle.texts.proofs.items.u2_at.Reads as u2-at-reads
 
 u2-at-requires : tie.Need-u2-at-requires
 u2-at-requires c κs = search needs

@@ -1,6 +1,6 @@
 use Rattle.machine.specs.GroupLaws.{heap-arm}
 use Rattle.machine.specs.HeapTurns.{windowed}
-use Rattle.verifier.specs.InstructionWords.{branchOf}
+use Rattle.rules.specs.InstructionWords.{branchOf}
 use borrow.Author.Needs.{needs}
 use Rattle.machine.proofs.groups.branch.Statement.{statement}
 use Rattle.machine.proofs.groups.branch.Tie as tie

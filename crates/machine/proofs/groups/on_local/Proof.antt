@@ -1,5 +1,5 @@
 use Rattle.machine.specs.GroupLaws.{window-arm}
-use Rattle.verifier.specs.InstructionWords.{localOf}
+use Rattle.rules.specs.InstructionWords.{localOf}
 use borrow.Author.Needs.{needs}
 use Rattle.machine.proofs.groups.on_local.Statement.{statement}
 use Rattle.machine.proofs.groups.on_local.Tie as tie

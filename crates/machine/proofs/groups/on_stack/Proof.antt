@@ -1,6 +1,6 @@
 use Rattle.machine.specs.GroupLaws.{heap-arm}
 use Rattle.machine.specs.HeapTurns.{windowed}
-use Rattle.verifier.specs.InstructionWords.{stackOf}
+use Rattle.rules.specs.InstructionWords.{stackOf}
 use borrow.Author.Needs.{needs}
 use Rattle.machine.proofs.groups.on_stack.Statement.{statement}
 use Rattle.machine.proofs.groups.on_stack.Tie as tie

@@ -1,6 +1,6 @@
 use Rattle.machine.specs.GroupLaws.{heap-arm}
 use Rattle.machine.specs.HeapTurns.{windowed}
-use Rattle.verifier.specs.InstructionWords.{plainOf}
+use Rattle.rules.specs.InstructionWords.{plainOf}
 use borrow.Author.Needs.{needs}
 use Rattle.machine.proofs.groups.plain.Statement.{statement}
 use Rattle.machine.proofs.groups.plain.Tie as tie

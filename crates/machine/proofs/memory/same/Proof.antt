@@ -1,4 +1,4 @@
-use Rattle.verifier.specs.SlotLaws.{same-set}
+use Rattle.rules.specs.SlotLaws.{same-set}
 use borrow.Author.Needs.{needs}
 use Rattle.machine.proofs.memory.same.Statement.{statement}
 use Rattle.machine.proofs.memory.same.Tie as tie

@@ -5,7 +5,7 @@ use Rattle.reader.proofs.access.entry.Tie as tie
 use Rattle.reader.proofs.access.entry.Reads as reads
 use Rattle.reader.proofs.access.entry.Lts as lts
 use Rattle.reader.proofs.link.tags_end.Reads as tags-end-reads
-use Rattle.reader.proofs.pool.entry_of.Reads as entry-of-reads
+use Rattle.classfiles.proofs.pool.entry_of.Reads as entry-of-reads
 
 tags-end-requires : tie.Need-tags-end-requires
 tags-end-requires c κs = search needs

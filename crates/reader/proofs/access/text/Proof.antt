@@ -5,7 +5,7 @@ use Rattle.reader.proofs.access.text.Tie as tie
 use Rattle.reader.proofs.access.text.Reads as reads
 use Rattle.reader.proofs.access.text.Lts as lts
 use Rattle.reader.proofs.link.tags_end.Reads as tags-end-reads
-use Rattle.reader.proofs.pool.text_of.Reads as text-of-reads
+use Rattle.classfiles.proofs.pool.text_of.Reads as text-of-reads
 
 tags-end-requires : tie.Need-tags-end-requires
 tags-end-requires c κs = search needs

@@ -1,5 +1,5 @@
 use Rattle.reader.specs.Chains.{knownAt}
-use Rattle.reader.specs.Answers.{ltb-via}
+use Rattle.texts.specs.Answers.{ltb-via}
 use borrow.Author.Needs.{needs}
 use Rattle.reader.proofs.link.is_known.Statement.{statement}
 use Rattle.reader.proofs.link.is_known.Tie as tie

@@ -1,6 +1,6 @@
 use mathlib.Core.Path.{_∙_, ap}
 use Prim.Native.Nat.{ℕ, _+_}
-use Rattle.reader.specs.Reading.{u2At}
+use Rattle.texts.specs.Reading.{u2At}
 use borrow.Author.Needs.{needs}
 use Rattle.reader.proofs.link.super_index.Statement.{statement}
 use Rattle.reader.proofs.link.super_index.Tie as tie

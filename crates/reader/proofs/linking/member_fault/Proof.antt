@@ -1,10 +1,10 @@
-use Rattle.reader.specs.MemberPass.{ready-row, ruled-double, ruled-method, ruled-field}
+use Rattle.reader.specs.MemberPass.{ready-first, ruled-double, ruled-method, ruled-field}
 use borrow.Author.Needs.{needs}
 use Rattle.reader.proofs.linking.member_fault.Statement.{statement}
 use Rattle.reader.proofs.linking.member_fault.Tie as tie
 
 is-first-requires : tie.Need-is-first-requires
-is-first-requires c κs = ready-row (c .before .before .before .args .s .now) (c .before .before .before .args .n) (c .before .before .before .args .t .now) (c .before .before .before .pre .0) (c .before .before .before .args .c) (c .before .before .before .pre .1) (c .before .before .before .args .method) (c .before .before .before .args .j) (c .before .before .before .pre .2)
+is-first-requires c κs = ready-first (c .before .before .before .args .s .now) (c .before .before .before .args .n) (c .before .before .before .args .t .now) (c .before .before .before .pre .0) (c .before .before .before .args .c) (c .before .before .before .pre .1) (c .before .before .before .args .method) (c .before .before .before .args .j) (c .before .before .before .pre .2)
 
 same-length : tie.Need-same-length
 same-length c = search needs

@@ -1,17 +1,17 @@
 use Rattle.reader.specs.CodeLaws.{named-type}
-use Rattle.reader.specs.Shapes.{semicolon-past}
-use Rattle.reader.specs.Answers.{reads}
+use Rattle.classfiles.specs.Shapes.{semicolon-past}
+use Rattle.texts.specs.Answers.{reads}
 use Rattle.kit.specs.Pick.{picks}
 use native.Mathlib.Omega.{arith}
-use Rattle.reader.specs.Descriptors.{baseAt}
+use Rattle.classfiles.specs.Descriptors.{baseAt}
 use Rattle.reader.specs.TypeCodes.{baseOf}
 use borrow.Author.Needs.{needs}
 use Rattle.reader.proofs.types.base.Statement.{statement}
 use Rattle.reader.proofs.types.base.Tie as tie
 use Rattle.reader.proofs.types.base.Reads as reads
 use Rattle.reader.proofs.types.base.Lts as lts
-use Rattle.reader.proofs.descriptors.is_at.Reads as is-at-reads
-use Rattle.reader.proofs.descriptors.semicolon.Reads as semicolon-reads
+use Rattle.classfiles.proofs.descriptors.is_at.Reads as is-at-reads
+use Rattle.classfiles.proofs.descriptors.semicolon.Reads as semicolon-reads
 use Rattle.reader.proofs.types.named.Reads as named-reads
 
 is-at-requires : tie.Need-is-at-requires

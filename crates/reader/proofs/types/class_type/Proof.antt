@@ -1,16 +1,16 @@
 use Rattle.reader.specs.CodeLaws.{array-bad, array-ok, array-short, class-ref}
 use native.Mathlib.Omega.{arith}
-use Rattle.reader.specs.Answers.{reads}
+use Rattle.texts.specs.Answers.{reads}
 use Rattle.kit.specs.Pick.{picks}
-use Rattle.reader.specs.Descriptors.{classTypeAt}
+use Rattle.classfiles.specs.Descriptors.{classTypeAt}
 use borrow.Author.Needs.{needs}
 use Rattle.reader.proofs.types.class_type.Statement.{statement}
 use Rattle.reader.proofs.types.class_type.Tie as tie
 use Rattle.reader.proofs.types.class_type.Reads as reads
 use Rattle.reader.proofs.types.class_type.Lts as lts
-use Rattle.reader.proofs.descriptors.is_at.Reads as is-at-reads
+use Rattle.classfiles.proofs.descriptors.is_at.Reads as is-at-reads
 use Rattle.reader.proofs.link.number.Reads as number-reads
-use Rattle.reader.proofs.names.class_name.Reads as class-name-reads
+use Rattle.texts.proofs.names.class_name.Reads as class-name-reads
 use Rattle.reader.proofs.types.field.Reads as field-reads
 
 is-at-requires : tie.Need-is-at-requires

@@ -8,7 +8,7 @@ use Rattle.reader.proofs.types.describe.Statement.{statement}
 use Rattle.reader.proofs.types.describe.Tie as tie
 use Rattle.reader.proofs.types.describe.Reads as reads
 use Rattle.reader.proofs.types.describe.Lts as lts
-use Rattle.reader.proofs.descriptors.is_at.Reads as is-at-reads
+use Rattle.classfiles.proofs.descriptors.is_at.Reads as is-at-reads
 use Rattle.reader.proofs.types.also.Reads as also-reads
 use Rattle.reader.proofs.types.is_result_known.Reads as is-result-known-reads
 use Rattle.reader.proofs.types.params.Reads as params-reads

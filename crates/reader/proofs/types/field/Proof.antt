@@ -4,16 +4,16 @@ use Rattle.kit.specs.Pick.{same}
 use borrow.Author.Tests.{not-false}
 use Prim.Native.Nat.{_≤_, _-_}
 use mathlib.Core.Path.{_≡_}
-use Rattle.reader.specs.Descriptors.{typeAt}
-use Rattle.reader.specs.Shapes.{seen}
+use Rattle.classfiles.specs.Descriptors.{typeAt}
+use Rattle.classfiles.specs.Shapes.{seen}
 use Rattle.reader.specs.TypeCodes.{nested}
 use Rattle.reader.specs.Program.{numberIn, classNames}
-use Rattle.reader.specs.Blocks.{classesIn}
+use Rattle.classfiles.specs.Blocks.{classesIn}
 use Rattle.reader.proofs.types.field.Statement.{statement}
 use Rattle.reader.proofs.types.field.Tie as tie
 use Rattle.reader.proofs.types.field.Reads as reads
 use Rattle.reader.proofs.types.field.Lts as lts
-use Rattle.reader.proofs.descriptors.is_at.Reads as is-at-reads
+use Rattle.classfiles.proofs.descriptors.is_at.Reads as is-at-reads
 use Rattle.reader.proofs.types.base.Reads as base-reads
 use Rattle.reader.proofs.types.under.Reads as under-reads
 

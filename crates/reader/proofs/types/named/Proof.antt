@@ -1,16 +1,16 @@
 use Rattle.reader.specs.CodeLaws.{class-base}
-use Rattle.reader.specs.Answers.{reads}
+use Rattle.texts.specs.Answers.{reads}
 use Rattle.kit.specs.Pick.{picks}
 use native.Mathlib.Omega.{arith}
-use Rattle.reader.specs.Reading.{part}
-use Rattle.reader.specs.Descriptors.{namedAt}
+use Rattle.texts.specs.Reading.{part}
+use Rattle.classfiles.specs.Descriptors.{namedAt}
 use borrow.Author.Needs.{needs}
 use Rattle.reader.proofs.types.named.Statement.{statement}
 use Rattle.reader.proofs.types.named.Tie as tie
 use Rattle.reader.proofs.types.named.Reads as reads
 use Rattle.reader.proofs.types.named.Lts as lts
 use Rattle.reader.proofs.link.number.Reads as number-reads
-use Rattle.reader.proofs.names.class_name.Reads as class-name-reads
+use Rattle.texts.proofs.names.class_name.Reads as class-name-reads
 
 sub-class-name : tie.Need-sub-class-name
 sub-class-name c = search needs

@@ -10,7 +10,7 @@ use Rattle.reader.proofs.types.params.Statement.{statement}
 use Rattle.reader.proofs.types.params.Tie as tie
 use Rattle.reader.proofs.types.params.Reads as reads
 use Rattle.reader.proofs.types.params.Lts as lts
-use Rattle.reader.proofs.descriptors.is_at.Reads as is-at-reads
+use Rattle.classfiles.proofs.descriptors.is_at.Reads as is-at-reads
 use Rattle.reader.proofs.types.also.Reads as also-reads
 use Rattle.reader.proofs.types.field.Reads as field-reads
 use Rattle.reader.proofs.types.is_known.Reads as is-known-reads

@@ -5,7 +5,7 @@ use Rattle.reader.proofs.types.result.Statement.{statement}
 use Rattle.reader.proofs.types.result.Tie as tie
 use Rattle.reader.proofs.types.result.Reads as reads
 use Rattle.reader.proofs.types.result.Lts as lts
-use Rattle.reader.proofs.descriptors.is_at.Reads as is-at-reads
+use Rattle.classfiles.proofs.descriptors.is_at.Reads as is-at-reads
 use Rattle.reader.proofs.types.field.Reads as field-reads
 
 is-at-requires : tie.Need-is-at-requires

@@ -5,7 +5,7 @@ use Rattle.verifier.proofs.callees.back_of.Tie as tie
 use Rattle.verifier.proofs.callees.back_of.Reads as reads
 use Rattle.verifier.proofs.callees.back_of.Lts as lts
 use Rattle.reader.proofs.types.result_at.Reads as result-at-reads
-use Rattle.verifier.proofs.codes.described.Reads as described-reads
+use Rattle.rules.proofs.codes.described.Reads as described-reads
 
 -- src/callees.rt:90:9
 returns : tie.Need-returns

@@ -12,7 +12,7 @@ use Rattle.verifier.proofs.callees.count_of.Reads as count-of-reads
 use Rattle.verifier.proofs.callees.entry_of.Reads as entry-of-reads
 use Rattle.verifier.proofs.callees.made_by.Reads as made-by-reads
 use Rattle.verifier.proofs.callees.params_of.Reads as params-of-reads
-use Rattle.verifier.proofs.slots.peek.Reads as peek-reads
+use Rattle.rules.proofs.slots.peek.Reads as peek-reads
 
 -- src/callees.rt:177:36
 callee-of-requires : tie.Need-callee-of-requires

@@ -1,4 +1,4 @@
-use Rattle.reader.specs.Reading.{part}
+use Rattle.texts.specs.Reading.{part}
 use Rattle.verifier.specs.Preparing.{made-none, made-some}
 use borrow.Author.Needs.{needs}
 use Rattle.verifier.proofs.callees.made_by.Statement.{statement}
@@ -6,7 +6,7 @@ use Rattle.verifier.proofs.callees.made_by.Tie as tie
 use Rattle.verifier.proofs.callees.made_by.Reads as reads
 use Rattle.verifier.proofs.callees.made_by.Lts as lts
 use Rattle.verifier.proofs.callees.new_class.Reads as new-class-reads
-use Rattle.verifier.proofs.decode.instruction.Reads as instruction-reads
+use Rattle.rules.proofs.decode.instruction.Reads as instruction-reads
 
 -- src/callees.rt:163:9
 returns : tie.Need-returns

@@ -1,6 +1,6 @@
 use Rattle.verifier.specs.Callees.{Beside, Listed, beside-none, beside-put, listed-none, listed-put, count-beside, type-beside}
 use Rattle.reader.specs.TypeCodes.{paramsIn}
-use Rattle.reader.specs.Descriptors.{dint}
+use Rattle.classfiles.specs.Descriptors.{dint}
 use mathlib.Core.Path.{_≡_, refl, _∙_}
 use Prim.Native.Nat.{_≤_, _-_}
 use lib.ListN.{length}
@@ -12,7 +12,7 @@ use Rattle.verifier.proofs.callees.write_params.Reads as reads
 use Rattle.verifier.proofs.callees.write_params.Lts as lts
 use Rattle.kit.proofs.put_word.Reads as put-word-reads
 use Rattle.reader.proofs.types.param_at.Reads as param-at-reads
-use Rattle.verifier.proofs.codes.described.Reads as described-reads
+use Rattle.rules.proofs.codes.described.Reads as described-reads
 
 abbrev Inv-loop : tie.InvT-loop
 Inv-loop t₀ k n i₀ t i = (length t ≡ length t₀) × (i ≤ n) × Beside 65256 t₀ t × Listed 65256 i (paramsIn t₀ k) dint t

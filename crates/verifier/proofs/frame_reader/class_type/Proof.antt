@@ -5,7 +5,7 @@ use Rattle.verifier.proofs.frame_reader.class_type.Statement.{statement
 use Rattle.verifier.proofs.frame_reader.class_type.Tie as tie
 use Rattle.verifier.proofs.frame_reader.class_type.Reads as reads
 use Rattle.verifier.proofs.frame_reader.class_type.Lts as lts
-use Rattle.reader.proofs.items.num2.Reads as num2-reads
+use Rattle.texts.proofs.items.num2.Reads as num2-reads
 use Rattle.verifier.proofs.frame_reader.named_type.Reads as named-type-reads
 use Rattle.verifier.proofs.frame_reader.wrong.Reads as wrong-reads
 

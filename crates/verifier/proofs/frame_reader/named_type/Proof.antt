@@ -5,8 +5,8 @@ use Rattle.verifier.proofs.frame_reader.named_type.Statement.{statement
 use Rattle.verifier.proofs.frame_reader.named_type.Tie as tie
 use Rattle.verifier.proofs.frame_reader.named_type.Reads as reads
 use Rattle.verifier.proofs.frame_reader.named_type.Lts as lts
-use Rattle.verifier.proofs.codes.reference.Reads as reference-reads
-use Rattle.verifier.proofs.decode.named_word.Reads as named-word-reads
+use Rattle.rules.proofs.codes.reference.Reads as reference-reads
+use Rattle.rules.proofs.decode.named_word.Reads as named-word-reads
 use Rattle.verifier.proofs.frame_reader.ty.Reads as ty-reads
 use Rattle.verifier.proofs.frame_reader.wrong.Reads as wrong-reads
 

@@ -6,11 +6,11 @@ use Rattle.verifier.proofs.frame_reader.new_type.Statement.{statement}
 use Rattle.verifier.proofs.frame_reader.new_type.Tie as tie
 use Rattle.verifier.proofs.frame_reader.new_type.Reads as reads
 use Rattle.verifier.proofs.frame_reader.new_type.Lts as lts
-use Rattle.reader.proofs.items.num2.Reads as num2-reads
+use Rattle.texts.proofs.items.num2.Reads as num2-reads
 use Rattle.verifier.proofs.frame_reader.ty.Reads as ty-reads
 use Rattle.verifier.proofs.frame_reader.wrong.Reads as wrong-reads
-use Rattle.verifier.proofs.marks.is_new_at.Reads as is-new-at-reads
-use Rattle.verifier.proofs.types.Ty.uninit.Reads as uninit-reads
+use Rattle.shaping.proofs.marks.is_new_at.Reads as is-new-at-reads
+use Rattle.rules.proofs.types.Ty.uninit.Reads as uninit-reads
 
 -- src/frame_reader.rt:67:9
 num2-requires : tie.Need-num2-requires

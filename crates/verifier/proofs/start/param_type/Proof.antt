@@ -6,8 +6,8 @@ use Rattle.verifier.proofs.start.param_type.Reads as reads
 use Rattle.verifier.proofs.start.param_type.Lts as lts
 use Rattle.reader.proofs.types.param_at.Reads as param-at-reads
 use Rattle.reader.proofs.types.param_count.Reads as param-count-reads
-use Rattle.verifier.proofs.codes.described.Reads as described-reads
-use Rattle.verifier.proofs.types.Ty.top.Reads as top-reads
+use Rattle.rules.proofs.codes.described.Reads as described-reads
+use Rattle.rules.proofs.types.Ty.top.Reads as top-reads
 
 -- src/start.rt:30:12
 param-count-requires : tie.Need-param-count-requires

@@ -4,8 +4,8 @@ use Rattle.verifier.proofs.start.receiver.Statement.{statement}
 use Rattle.verifier.proofs.start.receiver.Tie as tie
 use Rattle.verifier.proofs.start.receiver.Reads as reads
 use Rattle.verifier.proofs.start.receiver.Lts as lts
-use Rattle.verifier.proofs.types.Ty.class.Reads as class-reads
-use Rattle.verifier.proofs.types.Ty.uninit_this.Reads as uninit-this-reads
+use Rattle.rules.proofs.types.Ty.class.Reads as class-reads
+use Rattle.rules.proofs.types.Ty.uninit_this.Reads as uninit-this-reads
 
 -- src/start.rt:20:9
 uninit-this-requires : tie.Need-uninit-this-requires

@@ -1,7 +1,7 @@
-use Rattle.verifier.specs.Loads.{not-there, is-there, meet-none, meet-fit, meet-new, merge-none, merge-frame, going-loaded}
-use Rattle.verifier.specs.StepClaims.{going-same}
-use Rattle.verifier.specs.Slots.{held}
-use Rattle.verifier.specs.SlotLaws.{outside-none}
+use Rattle.rules.specs.Loads.{not-there, is-there, meet-none, meet-fit, meet-new, merge-none, merge-frame, going-loaded}
+use Rattle.rules.specs.StepClaims.{going-same}
+use Rattle.rules.specs.Slots.{held}
+use Rattle.rules.specs.SlotLaws.{outside-none}
 use Rattle.kit.specs.Claims.{is}
 use mathlib.Core.Path.{sym, ap, _∙_}
 use borrow.Author.Needs.{needs}
@@ -9,10 +9,10 @@ use Rattle.verifier.proofs.walk.enter.Statement.{statement}
 use Rattle.verifier.proofs.walk.enter.Tie as tie
 use Rattle.verifier.proofs.walk.enter.Reads as reads
 use Rattle.verifier.proofs.walk.enter.Lts as lts
-use Rattle.verifier.proofs.frames.find.Reads as find-reads
-use Rattle.verifier.proofs.frames.load.Reads as load-reads
-use Rattle.verifier.proofs.slots.fit_states.Reads as fit-states-reads
-use Rattle.verifier.proofs.slots.must.Reads as must-reads
+use Rattle.rules.proofs.frames.find.Reads as find-reads
+use Rattle.rules.proofs.frames.load.Reads as load-reads
+use Rattle.rules.proofs.slots.fit_states.Reads as fit-states-reads
+use Rattle.rules.proofs.slots.must.Reads as must-reads
 
 -- src/walk.rt:96:9
 find-requires : tie.Need-find-requires

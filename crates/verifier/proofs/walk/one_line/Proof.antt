@@ -1,4 +1,4 @@
-use Rattle.reader.specs.Reading.{part}
+use Rattle.texts.specs.Reading.{part}
 use Rattle.verifier.specs.Lineup.{line-refused, line-done, step-ready, walking-known}
 use mathlib.Core.Path.{refl, _∙_}
 use borrow.Author.Needs.{needs}
@@ -7,8 +7,8 @@ use Rattle.verifier.proofs.walk.one_line.Tie as tie
 use Rattle.verifier.proofs.walk.one_line.Reads as reads
 use Rattle.verifier.proofs.walk.one_line.Lts as lts
 use Rattle.verifier.proofs.callees.known.Reads as known-reads
-use Rattle.verifier.proofs.decode.instruction.Reads as instruction-reads
-use Rattle.verifier.proofs.dispatch.falls_on.Reads as falls-on-reads
+use Rattle.rules.proofs.decode.instruction.Reads as instruction-reads
+use Rattle.rules.proofs.dispatch.falls_on.Reads as falls-on-reads
 use Rattle.verifier.proofs.walk.enter.Reads as enter-reads
 use Rattle.verifier.proofs.walk.one_step.Reads as one-step-reads
 

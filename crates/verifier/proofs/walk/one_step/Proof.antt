@@ -1,7 +1,7 @@
 use mathlib.Core.Logic.{inl}
-use Rattle.verifier.specs.Known.{factsOf}
-use Rattle.verifier.specs.StepClaims.{step-ask, step-hand, step-jump, hand-via, jump-outside, laid-outside, going-same, going-on}
-use Rattle.verifier.specs.SlotLaws.{length-stack, outside-none}
+use Rattle.rules.specs.Known.{factsOf}
+use Rattle.rules.specs.StepClaims.{step-ask, step-hand, step-jump, hand-via, jump-outside, laid-outside, going-same, going-on}
+use Rattle.rules.specs.SlotLaws.{length-stack, outside-none}
 use mathlib.Core.Path.{refl, sym}
 use native.Mathlib.Omega.{arith}
 use borrow.Author.Needs.{needs}
@@ -9,12 +9,12 @@ use Rattle.verifier.proofs.walk.one_step.Statement.{statement}
 use Rattle.verifier.proofs.walk.one_step.Tie as tie
 use Rattle.verifier.proofs.walk.one_step.Reads as reads
 use Rattle.verifier.proofs.walk.one_step.Lts as lts
-use Rattle.verifier.proofs.dispatch.ask.Reads as ask-reads
-use Rattle.verifier.proofs.dispatch.hides.Reads as hides-reads
-use Rattle.verifier.proofs.dispatch.jump.Reads as jump-reads
-use Rattle.verifier.proofs.dispatch.leave.Reads as leave-reads
-use Rattle.verifier.proofs.handlers.all_handlers.Reads as all-handlers-reads
-use Rattle.verifier.proofs.slots.peek.Reads as peek-reads
+use Rattle.rules.proofs.dispatch.ask.Reads as ask-reads
+use Rattle.rules.proofs.dispatch.hides.Reads as hides-reads
+use Rattle.rules.proofs.dispatch.jump.Reads as jump-reads
+use Rattle.rules.proofs.dispatch.leave.Reads as leave-reads
+use Rattle.rules.proofs.handlers.all_handlers.Reads as all-handlers-reads
+use Rattle.rules.proofs.slots.peek.Reads as peek-reads
 
 -- src/walk.rt:50:9
 ask-requires : tie.Need-ask-requires

@@ -1,4 +1,4 @@
-use Rattle.reader.specs.Reading.{part}
+use Rattle.texts.specs.Reading.{part}
 use Rattle.verifier.specs.Lineup.{walking-at, code-short}
 use Rattle.verifier.specs.Walks.{Midway, mid-start, mid-past, mid-stop, mid-end, mid-next, mid-out, held-parts}
 use mathlib.Core.Path.{_≡_, refl, _∙_}
@@ -10,7 +10,7 @@ use Rattle.verifier.proofs.walk.over_lines.Statement.{statement}
 use Rattle.verifier.proofs.walk.over_lines.Tie as tie
 use Rattle.verifier.proofs.walk.over_lines.Reads as reads
 use Rattle.verifier.proofs.walk.over_lines.Lts as lts
-use Rattle.verifier.proofs.opcodes.size_at.Reads as size-at-reads
+use Rattle.rules.proofs.opcodes.size_at.Reads as size-at-reads
 use Rattle.verifier.proofs.walk.ended.Reads as ended-reads
 use Rattle.verifier.proofs.walk.one_line.Reads as one-line-reads
 

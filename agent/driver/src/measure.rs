@@ -1,0 +1,167 @@
+//! What judging a bundle costs, as ratios to a byte-by-byte FNV-1a pass over the same bytes, best of many.
+
+use std::time::Instant;
+
+use flosquedo_outside::{bundle, bundles, fnv1a64, names_in};
+
+use crate::archive::{Judge, Part};
+use crate::bundles::{branches, covered, methods, pool_heavy, straight, Naming};
+
+const ROUNDS: usize = 400;
+
+/// What reading, linking and clearing costs.
+pub fn measure_reader() {
+    let mut bench = Bench::new(Part::Reader);
+    let prefixed = Naming::Prefixed(240);
+    bench.row("pool-heavy, 16 classes", &pool_heavy(16, 3_900));
+    bench.row("pool-heavy, 1 class", &pool_heavy(1, 2_060));
+    bench.row("the largest job", &largest_job());
+    for (name, bundle) in [
+        (
+            "3 times 64 methods, equal prefixes of 240",
+            methods(3, 64, prefixed, false),
+        ),
+        ("the same in a chain of 3", methods(3, 64, prefixed, true)),
+        (
+            "a chain of 16, 4 methods each",
+            methods(16, 4, Naming::Prefixed(4), true),
+        ),
+        (
+            "a chain of 16, 16 methods each",
+            methods(16, 16, Naming::Prefixed(4), true),
+        ),
+        (
+            "a chain of 16, 64 methods each",
+            methods(16, 64, Naming::Prefixed(4), true),
+        ),
+        (
+            "the same 64 methods in a chain of 16",
+            methods(16, 64, Naming::Repeated, true),
+        ),
+        (
+            "16 times 64 overloads of a long name",
+            methods(16, 64, Naming::Overloaded, false),
+        ),
+        (
+            "the same in a chain of 16",
+            methods(16, 64, Naming::Overloaded, true),
+        ),
+    ] {
+        bench.row(name, &bundle);
+    }
+}
+
+/// What the whole verification costs, and how it grows.
+pub fn measure_verifier() {
+    let mut bench = Bench::new(Part::Verifier);
+    bench.jobs();
+    bench.row("the largest job", &largest_job());
+    for length in [256, 512, 1_024, 2_048, 4_096] {
+        bench.row(&format!("{} bytes of code", length), &straight(length));
+    }
+    for count in [16, 32, 64, 128, 256] {
+        bench.row(
+            &format!("{} branches, {} frames", count, count),
+            &branches(count),
+        );
+    }
+    for count in [1, 4] {
+        bench.row(
+            &format!(
+                "{} methods of long code under 32 entries, 256 full frames",
+                count
+            ),
+            &covered(count),
+        );
+    }
+}
+
+struct Bench {
+    judge: Judge,
+    clearing: f64,
+}
+
+impl Bench {
+    fn new(part: Part) -> Bench {
+        let mut judge = Judge::new(part);
+        let clearing = best(|| judge.judge(keep(&[]))[0]);
+        println!(
+            "clearing the scratch alone (an empty bundle): {:.1} us",
+            clearing / 1e3
+        );
+        println!("bundle\tbytes\tverdict\tus\tFNV us\tratio\twithout clearing, ns a byte");
+        Bench { judge, clearing }
+    }
+
+    fn row(&mut self, name: &str, bytes: &[u8]) {
+        let verdict = self.judge.judge(bytes)[0];
+        let judged = best(|| self.judge.judge(keep(bytes))[0]);
+        let hash = best(|| hashed(keep(bytes)));
+        println!(
+            "{}\t{}\t{}\t{:.1}\t{:.1}\t{:.1}\t{:.2}",
+            name,
+            bytes.len(),
+            verdict,
+            judged / 1e3,
+            hash / 1e3,
+            judged / hash,
+            (judged - self.clearing) / bytes.len() as f64
+        );
+    }
+
+    /// The jobs compiled for Java 8, one after the other.
+    fn jobs(&mut self) {
+        let names = names_in("jobs/bundles");
+        let names = names.iter().filter(|name| name.ends_with(".r8.bundle"));
+        let bundles: Vec<Vec<u8>> = names.map(|name| bundle(name)).collect();
+        let judge = &mut self.judge;
+        let judged = best(|| {
+            let refused = |bytes: &Vec<u8>| judge.judge(keep(bytes.as_slice()))[0];
+            bundles.iter().map(refused).sum::<u32>()
+        });
+        let hash = best(|| {
+            let hashes = bundles.iter().map(|bytes| hashed(keep(bytes.as_slice())));
+            hashes.fold(0, |sum, hash| sum ^ hash)
+        });
+        let bytes: usize = bundles.iter().map(Vec::len).sum();
+        println!(
+            "{} jobs\t{}\t0\t{:.1}\t{:.1}\t{:.1}\t{:.2}",
+            bundles.len(),
+            bytes,
+            judged / 1e3,
+            hash / 1e3,
+            judged / hash,
+            (judged - self.clearing * bundles.len() as f64) / bytes as f64
+        );
+    }
+}
+
+fn largest_job() -> Vec<u8> {
+    let jobs = bundles("jobs/bundles").into_iter();
+    jobs.max_by_key(Vec::len).expect("a job")
+}
+
+/// The shortest of many runs, in nanoseconds; long ones are run less often.
+fn best<T: Copy>(mut run: impl FnMut() -> T) -> f64 {
+    let start = Instant::now();
+    let mut least = f64::INFINITY;
+    for round in 0..ROUNDS {
+        let one = Instant::now();
+        keep(run());
+        least = least.min(one.elapsed().as_nanos() as f64);
+        if round > 10 && start.elapsed().as_secs() >= 2 {
+            break;
+        }
+    }
+    least
+}
+
+fn hashed(bytes: &[u8]) -> u64 {
+    fnv1a64(bytes.iter().copied())
+}
+
+/// The value, by a way that the compiler does not see through.
+fn keep<T: Copy>(value: T) -> T {
+    // SAFETY: it reads a local that has a value.
+    unsafe { std::ptr::read_volatile(&value) }
+}

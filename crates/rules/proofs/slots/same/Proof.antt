@@ -1,0 +1,13 @@
+use Rattle.rules.specs.SlotLaws.{same-set}
+use borrow.Author.Needs.{needs}
+use Rattle.rules.proofs.slots.same.Statement.{statement}
+use Rattle.rules.proofs.slots.same.Tie as tie
+
+returns : tie.Need-returns
+returns c = same-set _ _ (c .if1 .taken)
+
+returns-2 : tie.Need-returns-2
+returns-2 c = search needs
+
+pub same-spec : {M : Type 1} → statement M
+same-spec = tie.close (tie.spec returns returns-2)

@@ -1,0 +1,48 @@
+use Rattle.shaping.specs.Passing.{mark-asked, typable}
+use borrow.Author.Needs.{needs}
+use Rattle.shaping.proofs.phases.typable.Statement.{statement}
+use Rattle.shaping.proofs.phases.typable.Tie as tie
+use Rattle.shaping.proofs.phases.typable.Reads as reads
+use Rattle.shaping.proofs.phases.typable.Lts as lts
+use Rattle.shaping.proofs.locate.site.Reads as site-reads
+use Rattle.shaping.proofs.marks.mark.Reads as mark-reads
+
+-- src/phases.rt:88:29
+sub-site : tie.Need-sub-site
+sub-site c = search needs
+
+-- src/phases.rt:88:29
+part-site-start : tie.Need-part-site-start
+part-site-start c = search needs
+
+-- src/phases.rt:88:29
+part-site-end : tie.Need-part-site-end
+part-site-end c = search needs
+
+-- src/phases.rt:88:9
+site-requires : tie.Need-site-requires
+site-requires c κs = search needs
+
+-- src/phases.rt:89:5
+mark-requires : tie.Need-mark-requires
+mark-requires c κs = mark-asked _ _ _ _ _ _ (c .before .site .ensures) (c .before .before .before .before .before .before .pre .3) (c .before .before .before .before .before .before .pre .0 .long)
+
+-- src/phases.rt:84:1
+same-length : tie.Need-same-length
+same-length c = search needs
+
+-- src/phases.rt:84:1
+returns : tie.Need-returns
+returns c = typable _ _ _ _ _ _ (c .before .before .before .before .site .ensures) (c .before .before .before .before .before .before .before .before .before .pre .3) _ _ (c .before .before .before .before .before .before .before .before .before .pre .0 .long) (c .before .before .mark .ensures)
+
+pub typable-spec : {M : Type 1} → statement M
+typable-spec =
+    tie.close
+    (tie.spec
+    sub-site
+    part-site-start
+    part-site-end
+    site-requires
+    mark-requires
+    same-length
+    returns)

@@ -1,0 +1,16 @@
+pub mod SiteLaws
+pub mod Resolving
+pub mod Located
+pub mod Kept
+pub mod Marks
+pub mod LineLaws
+pub mod MarkLaws
+pub mod TraitLaws
+pub mod ScanLaws
+pub mod Shaping
+pub mod ShapeLaws
+pub mod ShapeWhole
+pub mod Verify
+pub mod Phases
+pub mod Passing
+pub mod Verified

@@ -1,9 +1,0 @@
-use Rattle.verifier.specs.TypeLaws.{reference-kind}
-use Rattle.verifier.proofs.types.Ty.is_reference.Statement.{statement}
-use Rattle.verifier.proofs.types.Ty.is_reference.Tie as tie
-
-returns : tie.Need-returns
-returns c = reference-kind _
-
-pub is-reference-spec : {M : Type 1} → statement M
-is-reference-spec = tie.close (tie.spec returns)
