@@ -231,6 +231,8 @@ pub enum Naming {
     Repeated,
     /// One long name for all, and descriptors that differ.
     Overloaded,
+    /// Names that differ, all of one print.
+    Alike,
 }
 
 /// Classes of so many methods without attributes, each class below the one before it where `deep`.
@@ -255,6 +257,10 @@ pub fn methods(classes: usize, count: usize, naming: Naming, deep: bool) -> Vec<
                     let own = writer.text(&format!("(Ljob/Class{};{})V", class, flags(method)));
                     writer.method(shared, own);
                 }
+                Naming::Alike => {
+                    let name = writer.text(&alike(64 * class + method));
+                    writer.method(name, descriptor);
+                }
             }
         }
         let parent = match deep {
@@ -273,4 +279,13 @@ fn flags(number: usize) -> String {
         _ => "[I",
     };
     (0..6).map(bit).collect()
+}
+
+/// A number below 1,024 spelt in two words that add the same to the reader's print, so that all such names have one.
+fn alike(number: usize) -> String {
+    let bit = |place: usize| match number >> place & 1 {
+        0 => "lhbrtdic",
+        _ => "stgpouwz",
+    };
+    (0..10).map(bit).collect()
 }

@@ -46,6 +46,10 @@ pub fn measure_reader() {
             "the same in a chain of 16",
             methods(16, 64, Naming::Overloaded, true),
         ),
+        (
+            "a chain of 10, 64 methods each, all of one print",
+            methods(10, 64, Naming::Alike, true),
+        ),
     ] {
         bench.row(name, &bundle);
     }

@@ -1,14 +1,14 @@
 -- A word for each member, made of its name and descriptor: members of one signature have one print, so a search compares words first. Assumes nothing.
 use Prim.Native.Nat.{ℕ, zero, suc, _+_, _-_, _*_, _/_, _%_, _^_, _<_, _≤_}
 use mathlib.Core.Path.{_≡_, refl, sym, ap, subst, _∙_}
-use mathlib.Core.List.{List, [], _∷_}
+use mathlib.Core.List.{List}
 use mathlib.Core.Bool.{Bool, true, false, cond, not, _&&_}
 use mathlib.Core.Logic.{_⊎_, inl, inr}
 use native.Mathlib.Omega.{arith}
 use native.Mathlib.Numerals.{add-one}
 use lib.Dec.{eqb}
-use lib.ListN.{length, getD, take, drop, length-take, length-drop, drop-of-length-le}
-use lib.Seq.{take-take, drop-cons, drop-drop}
+use lib.ListN.{length, getD, take, drop, length-take, length-drop}
+use lib.Seq.{take-take, drop-drop}
 use borrow.Author.Tests.{not-false, eq-eqb}
 use Rattle.kit.specs.Bools.{not-so}
 use Rattle.kit.specs.Lists.{eqList, eqList-true, eqList-refl, drop-take}
@@ -26,37 +26,43 @@ use Rattle.reader.specs.MemberRows.{blockAt, rowCount, rowSig, otherSig,
 use Rattle.classfiles.specs.declared.pool.Span.{Span}
 
 -- ---- the print
--- of a text, on top of h
+-- n words of a text from word i on, on top of h
+unfoldable pub printWords : ℕ → Text → ℕ → ℕ → ℕ
+printWords h x zero i = h
+printWords h x (suc n) i = printWords ((16777619 * h + word x i) % 4294967296) x n (suc i)
+
+-- a text, four bytes at a time, then the last three at most
 unfoldable pub printFrom : ℕ → Text → ℕ
-printFrom h [] = h
-printFrom h (b ∷ bs) = printFrom ((257 * h + b) % 4294967296) bs
+printFrom h x =
+    (16777619 * printWords h x (length x / 4) 0 + getD x (4 * (length x / 4)) 0 + 256 * getD x (4 * (length x / 4) + 1) 0 + 65536 * getD x (4 * (length x / 4) + 2) 0) % 4294967296
 
 unfoldable pub printOf : Signature → ℕ
 printOf g = printFrom (printFrom 0 (g .descriptor)) (g .name)
 
-print-from-lt : (x : Text) (h : ℕ) → h < 2 ^ 32 → printFrom h x < 2 ^ 32
-unfolding printFrom
-print-from-lt [] h l = l
-print-from-lt (b ∷ bs) h l = print-from-lt bs ((257 * h + b) % 4294967296) (omega arith)
-
 pub print-lt : (g : Signature) → printOf g < 2 ^ 32
-unfolding printOf
-print-lt g = print-from-lt (g .name) _ (print-from-lt (g .descriptor) 0 (omega arith))
+unfolding printOf printFrom
+print-lt g = omega arith
 
--- a loop over a text, of which i bytes have passed
-module _ (x : Text) (i h R : ℕ) (v : printFrom h (drop i x) ≡ R) where
-  pub print-end : length x ≤ i → h ≡ R
-  unfolding printFrom
-  print-end l = sym (ap (printFrom h) (drop-of-length-le x l)) ∙ v
+-- a loop over the words of a text, of which i have passed
+module _ (x : Text) (n i h R : ℕ) (v : printWords h x (n - i) i ≡ R) where
+  pub words-end : n ≤ i → h ≡ R
+  unfolding printWords
+  words-end l = let z : n - i ≡ 0 = omega arith in sym (ap (λ (k : ℕ). printWords h x k i) z) ∙ v
 
-  pub print-next : i < length x → (b : ℕ) → b ≡ getD x i 0 → printFrom ((257 * h + b) % 4294967296) (drop (i + 1) x) ≡ R
-  unfolding printFrom
-  print-next l b e =
-      ap (λ (k : ℕ). printFrom ((257 * h + b) % 4294967296) (drop k x)) (add-one i)
-      ∙ ap (λ (k : ℕ). printFrom ((257 * h + k) % 4294967296) (drop (suc i) x)) e ∙ sym (ap (printFrom h) (drop-cons x i 0 l)) ∙ v
+  pub words-next : i < n → (b : ℕ) → b ≡ word x i → printWords ((16777619 * h + b) % 4294967296) x (n - (i + 1)) (i + 1) ≡ R
+  unfolding printWords
+  words-next l b e =
+      let z : n - i ≡ suc (n - (i + 1)) = omega arith in
+      ap (printWords ((16777619 * h + b) % 4294967296) x (n - (i + 1))) (add-one i)
+      ∙ ap (λ (k : ℕ). printWords ((16777619 * h + k) % 4294967296) x (n - (i + 1)) (suc i)) e ∙ sym (ap (λ (k : ℕ). printWords h x k i) z) ∙ v
 
-pub print-start : (x : Text) (h : ℕ) → printFrom h (drop 0 x) ≡ printFrom h x
-print-start x h = refl
+pub words-start : (x : Text) (n h : ℕ) → printWords h x (n - 0) 0 ≡ printWords h x n 0
+words-start x n h = let z : n - 0 ≡ n = omega arith in ap (λ (k : ℕ). printWords h x k 0) z
+
+pub print-last : (x : Text) (h v a b c : ℕ) → v ≡ printWords h x (length x / 4) 0 → a ≡ getD x (4 * (length x / 4)) 0 → b ≡ getD x (4 * (length x / 4) + 1) 0 → c ≡ getD x (4 * (length x / 4) + 2) 0
+    → (16777619 * v + a + 256 * b + 65536 * c) % 4294967296 ≡ printFrom h x
+unfolding printFrom
+print-last x h v a b c e f g k = rw (e, f, g, k)
 
 pub print-by : (x y : Text) (h r : ℕ) → h ≡ printFrom 0 y → r ≡ printFrom h x → r ≡ printOf (signature x y)
 unfolding printOf
@@ -202,6 +208,15 @@ module _ (s t : List ℕ) (c : ℕ) (method : Bool) (h : PrintedAt s t c method)
     where
       whole : length (take (4 * w + 4 * m - 4 * w) (drop (4 * w) t)) ≡ 4 * m
       whole = omega (arith, length-take (4 * w + 4 * m - 4 * w) (drop (4 * w) t), length-drop (4 * w) t, e, word-of c method o .1, h .long, h .few)
+
+-- row j, where no print before it is its own
+pub first-lone : (s t : List ℕ) (c : ℕ) (method : Bool) (h : PrintedAt s t c method) (j w : ℕ) → w ≡ printsWord c method → c < 16 → j < rowCount (blockAt t c) method
+    → (p : ℕ) → p ≡ word t (w + j) → (r : Bool)
+    → r ≡ hasWord (take (4 * w + 4 * j - 4 * w) (drop (4 * w) t)) p (length (take (4 * w + 4 * j - 4 * w) (drop (4 * w) t)) / 4) → r ≡ false → true ≡ firstAt s (blockAt t c) method j
+first-lone s t c method h j w e o l p f r q z =
+    sym (eq-eqb j j refl)
+    ∙ first-under s (blockAt t c) method j j (rowSig s (blockAt t c) method j) refl l
+    (first-none s t c method h j w e (omega arith) o (rowSig s (blockAt t c) method j) p (f ∙ ap (λ (v : ℕ). word t (v + j)) e ∙ h .at j l) r q z)
 
 pub first-block : (s t : List ℕ) (c : ℕ) (method : Bool) (g : Signature) (m r : ℕ) → r ≡ firstNot (otherSig s (take (6432 * c + 6432 - 6432 * c) (drop (6432 * c) t)) method g) m 0
     → r ≡ firstNot (otherSig s (blockAt t c) method g) m 0

@@ -8,18 +8,21 @@ ghost use Rattle.kit.specs.Words.{word};
 ghost use Rattle.reader.specs.Program.{signature};
 ghost use Rattle.reader.specs.Prints.{printFrom, printOf, hasWord, printsWord};
 
-// Text x on top of h.
+// Text x on top of h, four bytes at a time.
 fn text_print(h: usize, x: &[u8]) -> usize
     requires { ⌜ h < 2 ^ 32 ⌝ }
     ensures { λ r. ⌜ (r ≡ printFrom h (now (x .entry))) × (r < 2 ^ 32) ⌝ }
 {
+    let n = x.len() / 4;
     let mut v = h;
     let mut i = 0;
-    while i < x.len() {
-        v = (257 * v + kit::byte(x, i)) % 4294967296;
+    while i < n {
+        v = (16777619 * v + kit::word(x, i) as usize) % 4294967296;
         i += 1;
     }
-    v
+    let a = 4 * n;
+    (16777619 * v + kit::byte(x, a) + 256 * kit::byte(x, a + 1) + 65536 * kit::byte(x, a + 2))
+        % 4294967296
 }
 
 // The print of name x and descriptor y.

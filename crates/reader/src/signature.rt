@@ -6,7 +6,7 @@ use classfiles::pool::Span;
 use texts::items;
 use texts::names;
 ghost use mathlib.Core.Path.{_≡_};
-ghost use Prim.Native.Nat.{_*_, _^_, _<_, _≤_};
+ghost use Prim.Native.Nat.{_+_, _*_, _^_, _<_, _≤_};
 ghost use lib.ListN.{length};
 ghost use Rattle.kit.specs.Scan.{firstNot};
 ghost use Rattle.kit.specs.Words.{word};
@@ -16,7 +16,7 @@ ghost use Rattle.classfiles.specs.Table.{IsText};
 ghost use Rattle.reader.specs.Program.{signature, indexOf};
 ghost use Rattle.classfiles.specs.Blocks.{blockSize, poolOf};
 ghost use Rattle.reader.specs.MemberRows.{blockAt, rowsWord, rowStart, rowCount, rowSig, rowSigs, otherSig, firstAt};
-ghost use Rattle.reader.specs.Prints.{printOf, PrintedAt, RowPrints};
+ghost use Rattle.reader.specs.Prints.{printOf, printsWord, PrintedAt, RowPrints};
 
 // The text that the number at p names.
 pub fn text_at(s: &[u8], b: &[u8], p: usize) -> Span
@@ -192,9 +192,9 @@ pub fn member_descriptor(s: &[u8], t: &[u8], c: usize, method: bool, j: usize) -
     text_at(s, &t[a..e], q + 4)
 }
 
-// Whether no earlier member of block c has member j's name and descriptor.
-pub fn is_first(s: &[u8], t: &[u8], c: usize, method: bool, j: usize) -> bool
-    requires { ⌜ (c < 16) × PrintedAt (now s) (now t) c method × (j < rowCount (blockAt (now t) c) method) ⌝ }
+// Whether no earlier member of block c has member j's name and descriptor, by texts where a print is the same.
+fn is_first_text(s: &[u8], t: &[u8], c: usize, method: bool, j: usize, p: u32) -> bool
+    requires { ⌜ (c < 16) × PrintedAt (now s) (now t) c method × (j < rowCount (blockAt (now t) c) method) × (p ≡ word (now t) (printsWord c method + j)) ⌝ }
     ensures { λ r. ⌜ r ≡ firstAt (now (s .entry)) (blockAt (now (t .entry)) c) method j ⌝ }
 {
     let u = member_name(s, t, c, method, j);
@@ -203,6 +203,19 @@ pub fn is_first(s: &[u8], t: &[u8], c: usize, method: bool, j: usize) -> bool
     let d = member_descriptor(s, t, c, method, j);
     let h = d.start;
     let k = d.end;
-    let p = prints::print_at(t, c, method, j);
     first_of(s, t, c, method, j, &s[f..g], &s[h..k], p) == j
+}
+
+pub fn is_first(s: &[u8], t: &[u8], c: usize, method: bool, j: usize) -> bool
+    requires { ⌜ (c < 16) × PrintedAt (now s) (now t) c method × (j < rowCount (blockAt (now t) c) method) ⌝ }
+    ensures { λ r. ⌜ r ≡ firstAt (now (s .entry)) (blockAt (now (t .entry)) c) method j ⌝ }
+{
+    let w = prints::first_word(c, method);
+    let p = kit::word(t, w + j);
+    let f = 4 * w;
+    let g = f + 4 * j;
+    if prints::has(&t[f..g], p) {
+        return is_first_text(s, t, c, method, j, p);
+    }
+    true
 }

@@ -2,6 +2,7 @@ pub mod Instruction
 pub mod Resolve
 pub mod Opcodes
 pub mod OpcodeTable
+pub mod OpcodeSizes
 pub mod Types
 pub mod TypeWords
 pub mod TypeCodes

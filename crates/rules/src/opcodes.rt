@@ -2,6 +2,7 @@
 ghost use mathlib.Core.Path.{_≡_};
 ghost use Prim.Native.Nat.{_<_};
 ghost use Rattle.rules.specs.Opcodes.{rowOf, lengthOf, takenOf, leftOf, sizeAt};
+ghost use Rattle.rules.specs.OpcodeSizes.{packedAt};
 
 const ROWS: [u8; 768] = [
     1,
@@ -801,9 +802,44 @@ pub fn left(op: usize) -> u8
     0
 }
 
+// The lengths of the sixteen opcodes from 16 k on, two bits each. The table itself is built anew where it is read, which costs more than the
+// rest of a look-up.
+fn packed(k: usize) -> u32
+    ensures { λ r. ⌜ r ≡ packedAt k ⌝ }
+{
+    match k {
+        0 => 0x00015555,
+        1 => 0x0558082e,
+        2 => 0x15500000,
+        3 => 0x15602010,
+        4 => 0x55400000,
+        5 => 0x40144040,
+        6 => 0x01010101,
+        7 => 0x11110101,
+        8 => 0x00000311,
+        9 => 0xfffc0000,
+        10 => 0x0100ffff,
+        11 => 0x5ec3ff05,
+        12 => 0x0000f00f,
+        13 => 0x00000000,
+        14 => 0x00000000,
+        15 => 0x00000000,
+        _ => 0,
+    }
+}
+
+fn size(op: usize) -> usize
+    requires { ⌜ op < 256 ⌝ }
+    ensures { λ r. ⌜ r ≡ lengthOf (rowOf op) ⌝ }
+{
+    let w = packed(op / 16);
+    let k = (2 * (op % 16)) as u32;
+    ((w >> k) % 4) as usize
+}
+
 // The length of the instruction at an offset of a method's code.
 pub fn size_at(code: &[u8], o: usize) -> usize
     ensures { λ r. ⌜ (r ≡ sizeAt (now (code .entry)) o) × (r < 4) ⌝ }
 {
-    length(kit::byte(code, o)) as usize
+    size(kit::byte(code, o))
 }

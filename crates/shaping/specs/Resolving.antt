@@ -11,7 +11,7 @@ use lib.Seq.{take-take, getD-drop, ext-getD}
 use borrow.Author.Tests.{eqb-true, eq-eqb, ne-eqb, lt-ltb, le-ltb, not-true, not-false}
 use Rattle.kit.specs.Lists.{eqList, eqList-true, drop-take, length-part}
 use Rattle.kit.specs.Pick.{side}
-use Rattle.kit.specs.Words.{word, putWord, length-put, byte-other, word-take, word-same, word-other}
+use Rattle.kit.specs.Words.{word, putWord, length-put, byte-other, word-take, word-part, word-same, word-other}
 use Rattle.texts.specs.Reading.{ok, u4At}
 use Rattle.texts.specs.Names.{Text, isInit}
 use Rattle.texts.specs.Answers.{resAs, no-ok, no-bad}
@@ -483,6 +483,21 @@ module _ (s : List ℕ) (n : ℕ) (t u : List ℕ) (m : n ≤ 16) (e : take 1030
   -- nor do the prints behind it
   pub printed-same : drop 168576 u ≡ drop 168576 t → length u ≡ length t → Printed s n t → Printed s n u
   printed-same b l h = printed-moved s n t u m (below-same parentsAt (omega arith)) (same-back 168576 187008 t u (omega arith) b) l h
+
+-- past the end of the pool there is nothing
+pub past-word : (s : List ℕ) (P : Program) (t : List ℕ) (c i w : ℕ) → w ≡ word t (1608 * c + 1025) → w ≤ i → Named s P (resolve P (poolOf s (blockAt t c)) i) 0
+unfolding resolve poolOf
+past-word s P t c i w e g =
+    let b : List ℕ = blockAt t c in
+    let z : word b poolWord ≡ word t (1608 * c + 1025) = word-block in
+    named-none s P _
+    (ap (resolveEntry P (poolIn s (take (4 * word b poolWord) b)))
+    (entry-past s (take (4 * word b poolWord) b) i (omega (arith, z, e, g, length-take (4 * word b poolWord) b))))
+  where
+    word-block : word (blockAt t c) poolWord ≡ word t (1608 * c + 1025)
+    word-block =
+        let m : 6432 * c ≡ 4 * (1608 * c) = omega arith in
+        ap (λ (k : ℕ). word (take 6432 (drop k t)) 1025) m ∙ word-part (1608 * c) 6432 t 1025 (omega arith)
 
 -- the first k words are there
 pub record Filled (s : List ℕ) (n k : ℕ) (t u : List ℕ) : Type 0 where

@@ -226,6 +226,17 @@ fn entry_word(s: &[u8], t: &[u8], n: usize, c: usize, i: usize) -> u32
     }
 }
 
+// The same; past the end of the pool nothing, without taking an entry apart.
+fn word_for(s: &[u8], t: &[u8], n: usize, c: usize, i: usize) -> u32
+    requires { ⌜ (length (now s) ≤ 65536) × (n ≤ 16) × (c < n) × (i < 1024) × (parentsEnd ≤ length (now t)) × Parents (now s) n (now t) × Limited n (now t) × Printed (now s) n (now t) ⌝ }
+    ensures { λ r. ⌜ Named (now (s .entry)) (programOf (filesIn (now (s .entry)) n (now (t .entry)))) (resolve (programOf (filesIn (now (s .entry)) n (now (t .entry)))) (poolOf (now (s .entry)) (blockAt (now (t .entry)) c)) i) r ⌝ }
+{
+    if kit::word(t, 1608 * c + 1025) as usize <= i {
+        return 0;
+    }
+    entry_word(s, t, n, c, i)
+}
+
 // The words of all entries of the n classes.
 fn entries(s: &[u8], t: &mut [u8], n: usize)
     requires { ⌜ (length (now s) ≤ 65536) × (n ≤ 16) × (168576 ≤ length (now t)) × Parents (now s) n (now t) × Limited n (now t) × Printed (now s) n (now t) ⌝ }
@@ -234,7 +245,7 @@ fn entries(s: &[u8], t: &mut [u8], n: usize)
     let e = 1024 * n;
     let mut k = 0;
     while k < e {
-        let w = entry_word(s, t, n, k / 1024, k % 1024);
+        let w = word_for(s, t, n, k / 1024, k % 1024);
         kit::put_word(t, 25760 + k, w);
         k += 1;
     }

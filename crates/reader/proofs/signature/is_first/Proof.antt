@@ -1,55 +1,65 @@
-use Rattle.reader.specs.Prints.{print-texts, first-under}
-use Rattle.reader.specs.MemberRows.{sig-by}
+use Rattle.reader.specs.Prints.{word-of, first-lone}
 use native.Mathlib.Omega.{arith}
+use Prim.Native.Nat.{ℕ, _+_}
+use mathlib.Core.Path.{ap, _∙_}
+use Rattle.kit.specs.Words.{word}
 use borrow.Author.Needs.{needs}
 use Rattle.reader.proofs.signature.is_first.Statement.{statement}
 use Rattle.reader.proofs.signature.is_first.Tie as tie
 
-member-name-requires : tie.Need-member-name-requires
-member-name-requires c κs = (c .before .before .pre .0, omega (arith, c .before .before .pre .1 .long), omega (arith, c .before .before .pre .2, c .before .before .pre .1 .few))
+first-word-requires : tie.Need-first-word-requires
+first-word-requires c κs = c .before .before .pre .0
 
-member-descriptor-requires : tie.Need-member-descriptor-requires
-member-descriptor-requires c κs = (c .before .before .before .pre .0, omega (arith, c .before .before .before .pre .1 .long), omega (arith, c .before .before .before .pre .2, c .before .before .before .pre .1 .few))
+add-word : tie.Need-add-word
+add-word c = omega (arith, c .first-word .ensures .1, c .before .before .before .pre .2, c .before .before .before .pre .1 .few)
 
-print-at-requires : tie.Need-print-at-requires
-print-at-requires c κs = (c .before .before .before .before .pre .0, omega (arith, c .before .before .before .before .pre .2, c .before .before .before .before .pre .1 .few))
+word-requires : tie.Need-word-requires
+word-requires c κs = search needs
 
-sub-first-of : tie.Need-sub-first-of
-sub-first-of c = search needs
+mul-f : tie.Need-mul-f
+mul-f c = omega (arith, c .before .first-word .ensures .1)
 
-part-first-of-start : tie.Need-part-first-of-start
-part-first-of-start c = search needs
+mul-g : tie.Need-mul-g
+mul-g c = omega (arith, c .before .before .before .before .pre .2, c .before .before .before .before .pre .1 .few)
 
-part-first-of-end : tie.Need-part-first-of-end
-part-first-of-end c = search needs
+add-g : tie.Need-add-g
+add-g c = omega (arith, c .before .first-word .ensures .1, c .before .before .before .before .pre .2, c .before .before .before .before .pre .1 .few)
 
-sub-first-of-2 : tie.Need-sub-first-of-2
-sub-first-of-2 c = search needs
+sub-has : tie.Need-sub-has
+sub-has c = search needs
 
-part-first-of-start-2 : tie.Need-part-first-of-start-2
-part-first-of-start-2 c = search needs
+part-has-start : tie.Need-part-has-start
+part-has-start c = search needs
 
-part-first-of-end-2 : tie.Need-part-first-of-end-2
-part-first-of-end-2 c = search needs
+part-has-end : tie.Need-part-has-end
+part-has-end c = omega (arith, c .before .first-word .ensures .0, word-of (c .before .before .before .before .args .c) (c .before .before .before .before .args .method) (c .before .before .before .before .pre .0) .1, c .before .before .before .before .pre .1 .long, c .before .before .before .before .pre .1 .few, c .before .before .before .before .pre .2)
 
-first-of-requires : tie.Need-first-of-requires
-first-of-requires c κs = (c .before .before .before .before .before .before .before .pre .0, c .before .before .before .before .before .before .before .pre .1, omega (arith, c .before .before .before .before .before .before .before .pre .2), print-texts (c .before .before .before .before .before .before .before .args .s .now) (c .before .before .before .before .before .before .before .args .t .now) (c .before .before .before .before .before .before .before .args .c) (c .before .before .before .before .before .before .before .args .method) (c .before .before .before .before .before .before .before .args .j) _ (c .before .before .before .before .member-name .result) (c .before .before .before .member-descriptor .result) (c .before .before .before .before .before .before .before .pre .1) (c .before .before .before .before .before .before .before .pre .2) (c .before .before .print-at .ensures) (c .before .before .before .before .member-name .ensures) (c .before .before .before .member-descriptor .ensures))
+has-requires : tie.Need-has-requires
+has-requires c κs = search needs
+
+is-first-text-requires : tie.Need-is-first-text-requires
+is-first-text-requires c κs = (c .before .before .before .before .before .before .before .pre .0, c .before .before .before .before .before .before .before .pre .1, c .before .before .before .before .before .before .before .pre .2, c .before .before .before .word .ensures ∙ ap (λ (k : ℕ). word (c .before .before .before .before .before .before .before .args .t .now) (k + c .before .before .before .before .before .before .before .args .j)) (c .before .before .before .before .first-word .ensures .0))
 
 returns : tie.Need-returns
-returns c = first-under (c .before .before .before .before .before .before .before .before .args .s .now) _ (c .before .before .before .before .before .before .before .before .args .method) (c .before .before .before .before .before .before .before .before .args .j) _ _ (sig-by (c .before .before .before .before .before .before .before .before .args .s .now) _ (c .before .before .before .before .before .before .before .before .args .method) (c .before .before .before .before .before .before .before .before .args .j) (c .before .before .before .before .before .member-name .result) (c .before .before .before .before .member-descriptor .result) (c .before .before .before .before .before .member-name .ensures) (c .before .before .before .before .member-descriptor .ensures)) (c .before .before .before .before .before .before .before .before .pre .2) (c .first-of .ensures)
+returns c = c .is-first-text .ensures
+
+returns-2 : tie.Need-returns-2
+returns-2 c = first-lone (c .before .before .before .before .before .before .before .args .s .now) (c .before .before .before .before .before .before .before .args .t .now) (c .before .before .before .before .before .before .before .args .c) (c .before .before .before .before .before .before .before .args .method) (c .before .before .before .before .before .before .before .pre .1) (c .before .before .before .before .before .before .before .args .j) _ (c .before .before .before .before .first-word .ensures .0) (c .before .before .before .before .before .before .before .pre .0) (c .before .before .before .before .before .before .before .pre .2) _ (c .before .before .before .word .ensures) _ (c .before .has .ensures) (c .if1 .left)
 
 pub is-first-spec : {M : Type 1} → statement M
 is-first-spec =
     tie.close
     (tie.spec
-    member-name-requires
-    member-descriptor-requires
-    print-at-requires
-    sub-first-of
-    part-first-of-start
-    part-first-of-end
-    sub-first-of-2
-    part-first-of-start-2
-    part-first-of-end-2
-    first-of-requires
-    returns)
+    first-word-requires
+    add-word
+    word-requires
+    mul-f
+    mul-g
+    add-g
+    sub-has
+    part-has-start
+    part-has-end
+    has-requires
+    is-first-text-requires
+    returns
+    returns-2)

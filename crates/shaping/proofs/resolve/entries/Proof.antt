@@ -7,7 +7,7 @@ use Rattle.shaping.proofs.resolve.entries.Tie as tie
 use Rattle.shaping.proofs.resolve.entries.Reads as reads
 use Rattle.shaping.proofs.resolve.entries.Lts as lts
 use Rattle.kit.proofs.put_word.Reads as put-word-reads
-use Rattle.shaping.proofs.resolve.entry_word.Reads as entry-word-reads
+use Rattle.shaping.proofs.resolve.word_for.Reads as word-for-reads
 
 abbrev Inv-loop : tie.InvT-loop
 Inv-loop s t₀ n e k₀ t k = Filled s n k t₀ t × (k ≤ 1024 * n)
@@ -21,8 +21,8 @@ mul-e c = omega (arith, c .before .before .pre .1)
 loop-holds : tie.Need-loop-holds Inv-loop μ-loop
 loop-holds c = (filled-none _ _ _ (c .before .before .pre .1), omega arith)
 
-entry-word-requires : tie.Need-entry-word-requires Inv-loop μ-loop
-entry-word-requires c κs = let h = c .before .before .loop .inv .0 in (c .before .before .before .before .before .pre .0, c .before .before .before .before .before .pre .1, omega (arith, c .before .loop-test .taken), omega arith, omega (arith, h .long, c .before .before .before .before .before .pre .2), parents-same _ _ (c .before .before .before .before .before .args .t .now) _ (c .before .before .before .before .before .pre .1) (h .front) (c .before .before .before .before .before .pre .3), limited-same (c .before .before .before .before .before .args .s .now) _ (c .before .before .before .before .before .args .t .now) _ (c .before .before .before .before .before .pre .1) (h .front) (c .before .before .before .before .before .pre .4), printed-same _ _ (c .before .before .before .before .before .args .t .now) _ (c .before .before .before .before .before .pre .1) (h .front) (h .back) (h .long) (c .before .before .before .before .before .pre .5))
+word-for-requires : tie.Need-word-for-requires Inv-loop μ-loop
+word-for-requires c κs = let h = c .before .before .loop .inv .0 in (c .before .before .before .before .before .pre .0, c .before .before .before .before .before .pre .1, omega (arith, c .before .loop-test .taken), omega arith, omega (arith, h .long, c .before .before .before .before .before .pre .2), parents-same _ _ (c .before .before .before .before .before .args .t .now) _ (c .before .before .before .before .before .pre .1) (h .front) (c .before .before .before .before .before .pre .3), limited-same (c .before .before .before .before .before .args .s .now) _ (c .before .before .before .before .before .args .t .now) _ (c .before .before .before .before .before .pre .1) (h .front) (c .before .before .before .before .before .pre .4), printed-same _ _ (c .before .before .before .before .before .args .t .now) _ (c .before .before .before .before .before .pre .1) (h .front) (h .back) (h .long) (c .before .before .before .before .before .pre .5))
 
 add-put-word : tie.Need-add-put-word Inv-loop μ-loop
 add-put-word c = omega (arith, c .before .before .before .loop-test .taken, c .before .before .before .before .before .before .before .pre .1)
@@ -37,7 +37,7 @@ loop-less : tie.Need-loop-less Inv-loop μ-loop
 loop-less c = omega (arith, c .before .before .before .before .before .before .loop-test .taken)
 
 loop-again : tie.Need-loop-again Inv-loop μ-loop
-loop-again c = (filled-more (c .before .before .before .before .before .before .before .before .before .before .args .s .now) (c .before .before .before .before .before .before .before .before .before .before .args .n) (c .before .before .before .before .before .before .before .before .before .before .args .t .now) (c .before .before .before .before .before .before .before .before .before .before .pre .1) _ _ (c .before .before .before .before .before .before .before .loop .inv .0) _ _ (c .before .before .before .before .before .before .loop-test .taken) (c .before .before .before .before .before .before .before .before .before .before .pre .2) (omega arith) (c .before .before .before .before .entry-word .ensures) (c .before .before .put-word .ensures), omega (arith, c .before .before .before .before .before .before .loop-test .taken))
+loop-again c = (filled-more (c .before .before .before .before .before .before .before .before .before .before .args .s .now) (c .before .before .before .before .before .before .before .before .before .before .args .n) (c .before .before .before .before .before .before .before .before .before .before .args .t .now) (c .before .before .before .before .before .before .before .before .before .before .pre .1) _ _ (c .before .before .before .before .before .before .before .loop .inv .0) _ _ (c .before .before .before .before .before .before .loop-test .taken) (c .before .before .before .before .before .before .before .before .before .before .pre .2) (omega arith) (c .before .before .before .before .word-for .ensures) (c .before .before .put-word .ensures), omega (arith, c .before .before .before .before .before .before .loop-test .taken))
 
 same-length : tie.Need-same-length Inv-loop μ-loop
 same-length c = c .before .loop .inv .0 .long
@@ -53,7 +53,7 @@ entries-spec =
     μ-loop
     mul-e
     loop-holds
-    entry-word-requires
+    word-for-requires
     add-put-word
     put-word-requires
     add-k
