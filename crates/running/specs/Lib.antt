@@ -1,0 +1,14 @@
+pub mod Standing
+pub mod Popping
+pub mod Entering
+pub mod Calling
+pub mod Leaving
+pub mod Receiving
+pub mod Dispatching
+pub mod Virtual
+pub mod CallSites
+pub mod Targets
+pub mod Throws
+pub mod Throwing
+pub mod Athrow
+pub mod Entry
