@@ -8,30 +8,32 @@ pub type Verdict = [u32; 4];
 
 type Compiled = unsafe extern "C" fn(*const u8, usize, *mut u8, usize, *mut u8, usize) -> u32;
 
-#[cfg(has_reader)]
-extern "C" {
-    fn flosquedo_read(
-        bundle: *const u8,
-        bundle_length: usize,
-        scratch: *mut u8,
-        scratch_length: usize,
-        result: *mut u8,
-        result_length: usize,
-    ) -> u32;
+/// Declares a compiled function that judges a bundle.
+#[cfg(any(has_reader, has_verifier))]
+macro_rules! judging {
+    ($name:ident) => {
+        extern "C" {
+            fn $name(
+                bundle: *const u8,
+                bundle_length: usize,
+                scratch: *mut u8,
+                scratch_length: usize,
+                result: *mut u8,
+                result_length: usize,
+            ) -> u32;
+        }
+    };
 }
+
+#[cfg(has_reader)]
+judging!(flosquedo_read);
+
+#[cfg(has_verifier)]
+judging!(flosquedo_verify);
 
 #[cfg(has_verifier)]
 extern "C" {
     fn flosquedo_scratch_size() -> usize;
-
-    fn flosquedo_verify(
-        bundle: *const u8,
-        bundle_length: usize,
-        scratch: *mut u8,
-        scratch_length: usize,
-        result: *mut u8,
-        result_length: usize,
-    ) -> u32;
 }
 
 /// Which of the compiled functions judges a bundle.
