@@ -12,7 +12,7 @@ def depends():
 
 
 DEPENDS = depends()
-CRATES = {name: " ".join(DEPENDS[name]) for name in DEPENDS["machine"] + ["machine"]}
+CRATES = {name: " ".join(DEPENDS[name]) for name in DEPENDS["plain"] + ["plain"]}
 
 
 def spec(crate, module):

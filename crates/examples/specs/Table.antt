@@ -8,9 +8,9 @@ use Rattle.reader.specs.Verdicts.{numbers}
 use Rattle.reader.specs.Computing.{reading}
 use Rattle.shaping.specs.Verify.{verdictOf}
 use Rattle.verifier.specs.Computing.{verifying}
-use Rattle.machine.specs.Run.{Lent, sizesOk, answerOf, answerNumbers, noVerdict, runOf}
-use Rattle.machine.specs.Computing.{running}
-use Rattle.machine.specs.Laws.{run-answer}
+use Rattle.plain.specs.Run.{Lent, sizesOk, answerOf, answerNumbers, noVerdict, runOf}
+use Rattle.plain.specs.Computing.{running}
+use Rattle.plain.specs.Laws.{run-answer}
 use Rattle.examples.specs.Assemble.{noFrames, frames, static, constructor, noArguments, objectName}
 
 -- class and method, arguments, budget, lent cells; the nine numbers of the answer

@@ -16,17 +16,17 @@ use Rattle.rules.specs.Instruction.{athrow}
 use Rattle.rules.specs.Ancestry.{lineage, Parents}
 use Rattle.rules.specs.Sites.{front}
 use Rattle.shaping.specs.Phases.{programNow}
-use Rattle.machine.specs.Heap.{heap, Val, cell, toCell, refersTo, valueFits}
-use Rattle.machine.specs.Machine.{Result, stopped, stuck, Here, only, throw, fault, receiver}
-use Rattle.machine.specs.Step.{execute}
-use Rattle.machine.specs.ValueLaws.{valueOf}
-use Rattle.machine.specs.Objects.{nullOr, receiver-by, fits-here}
-use Rattle.machine.specs.Turns.{untrue, holds-so}
-use Rattle.machine.specs.Windows.{valAt, opsOf}
-use Rattle.machine.specs.WindowForms.{any-by}
-use Rattle.machine.specs.Calls.{windowAt}
-use Rattle.machine.specs.CallSteps.{Runs}
-use Rattle.machine.specs.declared.frames.Frame.{Frame}
+use Rattle.plain.specs.Heap.{heap, Val, cell, toCell, refersTo, valueFits}
+use Rattle.plain.specs.Machine.{Result, stopped, stuck, Here, only, throw, fault, receiver}
+use Rattle.plain.specs.Step.{execute}
+use Rattle.plain.specs.ValueLaws.{valueOf}
+use Rattle.plain.specs.Objects.{nullOr, receiver-by, fits-here}
+use Rattle.plain.specs.Turns.{untrue, holds-so}
+use Rattle.plain.specs.Windows.{valAt, opsOf}
+use Rattle.plain.specs.WindowForms.{any-by}
+use Rattle.plain.specs.Calls.{windowAt}
+use Rattle.plain.specs.CallSteps.{Runs}
+use Rattle.plain.specs.declared.frames.Frame.{Frame}
 use Rattle.running.specs.Standing.{records, Standing, few-operands}
 use Rattle.running.specs.Throwing.{goneOf, ending, Faults, Throws}
 use Rattle.running.specs.declared.throwing.Gone.{Gone}

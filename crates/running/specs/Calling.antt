@@ -31,16 +31,16 @@ use Rattle.shaping.specs.Located.{Located}
 use Rattle.verifier.specs.Besides.{Besides, besides-none}
 use Rattle.shaping.specs.Phases.{Readied, programNow, shapeBy}
 use Rattle.shaping.specs.Passing.{judged-pass, codes-one}
-use Rattle.machine.specs.Heap.{Heap, heap, Val}
-use Rattle.machine.specs.Machine.{stuck, Result, stopped, Here, only, popArguments, resultRoom, fault, enter}
-use Rattle.machine.specs.Step.{callStatic}
-use Rattle.machine.specs.Windows.{opsOf, length-ops}
-use Rattle.machine.specs.Calls.{windowAt}
-use Rattle.machine.specs.CallSteps.{Runs, goingOf, argsAt}
+use Rattle.plain.specs.Heap.{Heap, heap, Val}
+use Rattle.plain.specs.Machine.{stuck, Result, stopped, Here, only, popArguments, resultRoom, fault, enter}
+use Rattle.plain.specs.Step.{callStatic}
+use Rattle.plain.specs.Windows.{opsOf, length-ops}
+use Rattle.plain.specs.Calls.{windowAt}
+use Rattle.plain.specs.CallSteps.{Runs, goingOf, argsAt}
 use Rattle.rules.specs.declared.site.Site.{Site}
 use Rattle.rules.specs.declared.instruction.Callee.{Callee}
-use Rattle.machine.specs.declared.frames.Frame.{Frame}
-use Rattle.machine.specs.declared.calls.Going.{Going}
+use Rattle.plain.specs.declared.frames.Frame.{Frame}
+use Rattle.plain.specs.declared.calls.Going.{Going}
 use Rattle.running.specs.declared.popping.Popped.{Popped}
 use Rattle.running.specs.declared.entering.Way.{Way}
 use Rattle.running.specs.Standing.{records, Row, methodBy, AtCall, Standing, Passed, passed, row-small, few-operands}

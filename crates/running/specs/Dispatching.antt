@@ -27,7 +27,7 @@ use Rattle.running.specs.Standing.{records, Row, methodBy}
 
 -- ---- the table: for a run-time class c and a found method i of class o, by their places in the bundle
 abbrev pub spotWord : ℕ → ℕ → ℕ → ℕ
-spotWord c o i = 47136 + 1024 * c + 64 * o + i
+spotWord c o i = 48800 + 1024 * c + 64 * o + i
 
 -- 0 for nowhere, or 1 + 64 * class + index
 unfoldable pub spotOf : ℕ → Spot

@@ -13,13 +13,13 @@ use Rattle.rules.specs.Opcodes.{body}
 use Rattle.rules.specs.Sites.{front}
 use Rattle.verifier.specs.Besides.{Besides, besides-none, besides-put, besides-wide}
 use Rattle.shaping.specs.Phases.{programNow}
-use Rattle.machine.specs.Machine.{Here, enter}
-use Rattle.machine.specs.Windows.{opsOf}
-use Rattle.machine.specs.Calls.{windowAt, Saved}
-use Rattle.machine.specs.NextWindow.{Fresh}
-use Rattle.machine.specs.CallSteps.{Lent, Runs, goingOf, argsAt, Enters, enter-full, enter-on}
-use Rattle.machine.specs.declared.frames.Frame.{Frame}
-use Rattle.machine.specs.declared.calls.Going.{Going}
+use Rattle.plain.specs.Machine.{Here, enter}
+use Rattle.plain.specs.Windows.{opsOf}
+use Rattle.plain.specs.Calls.{windowAt, Saved}
+use Rattle.plain.specs.NextWindow.{Fresh}
+use Rattle.plain.specs.CallSteps.{Lent, Runs, goingOf, argsAt, Enters, enter-full, enter-on}
+use Rattle.plain.specs.declared.frames.Frame.{Frame}
+use Rattle.plain.specs.declared.calls.Going.{Going}
 use Rattle.running.specs.declared.entering.Way.{Way}
 use Rattle.running.specs.Standing.{records, Row, methodBy, AtCall, Standing, Passed, passed, row-small, locals-word, few-operands, standing-enter}
 

@@ -32,12 +32,12 @@ use Rattle.rules.specs.States.{receiverTys}
 use Rattle.rules.specs.Opcodes.{body}
 use Rattle.rules.specs.Sites.{front}
 use Rattle.shaping.specs.Phases.{Readied, programNow, shapeBy, ofAll}
-use Rattle.machine.specs.Heap.{Val, empty, num, paddedLocals}
-use Rattle.machine.specs.Run.{allInts, isEntry, started}
-use Rattle.machine.specs.ValueLaws.{value-num, value-empty}
-use Rattle.machine.specs.Windows.{valAt, locsFrom, locsOf, opsOf}
-use Rattle.machine.specs.Calls.{windowAt, waiting}
-use Rattle.machine.specs.declared.frames.Frame.{Frame}
+use Rattle.plain.specs.Heap.{Val, empty, num, paddedLocals}
+use Rattle.plain.specs.Run.{allInts, isEntry, started}
+use Rattle.plain.specs.ValueLaws.{value-num, value-empty}
+use Rattle.plain.specs.Windows.{valAt, locsFrom, locsOf, opsOf}
+use Rattle.plain.specs.Calls.{windowAt, waiting}
+use Rattle.plain.specs.declared.frames.Frame.{Frame}
 use Rattle.running.specs.Standing.{machineOf, Row, methodBy, Stacked, Standing, Passed, passed, locals-word}
 
 -- ---- int's code

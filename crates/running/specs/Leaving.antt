@@ -16,17 +16,17 @@ use Rattle.rules.specs.Types.{isDint}
 use Rattle.rules.specs.Rule.{returnsInt, returnsRef, returnsVoid}
 use Rattle.rules.specs.Sites.{front}
 use Rattle.shaping.specs.Phases.{Readied, programNow}
-use Rattle.machine.specs.Heap.{Heap, heap, Val, empty, num, ref, valueFits}
-use Rattle.machine.specs.Machine.{stuck, Result, stopped, ended, returned, Here, methodAt, only, popArguments, giveBack}
-use Rattle.machine.specs.Step.{selfReady, leave, leaveWith}
-use Rattle.machine.specs.Objects.{self-here, fits-here}
-use Rattle.machine.specs.ValueLaws.{valueOf, value-empty}
-use Rattle.machine.specs.Windows.{valAt, opsOf}
-use Rattle.machine.specs.Calls.{windowAt, frameAt, waiting}
-use Rattle.machine.specs.CallSteps.{Lent, Runs, goingOf, Gives, back-last}
-use Rattle.machine.specs.declared.frames.Frame.{Frame}
-use Rattle.machine.specs.declared.calls.Going.{Going}
-use Rattle.machine.specs.declared.values.Value.{Value}
+use Rattle.plain.specs.Heap.{Heap, heap, Val, empty, num, ref, valueFits}
+use Rattle.plain.specs.Machine.{stuck, Result, stopped, ended, returned, Here, methodAt, only, popArguments, giveBack}
+use Rattle.plain.specs.Step.{selfReady, leave, leaveWith}
+use Rattle.plain.specs.Objects.{self-here, fits-here}
+use Rattle.plain.specs.ValueLaws.{valueOf, value-empty}
+use Rattle.plain.specs.Windows.{valAt, opsOf}
+use Rattle.plain.specs.Calls.{windowAt, frameAt, waiting}
+use Rattle.plain.specs.CallSteps.{Lent, Runs, goingOf, Gives, back-last}
+use Rattle.plain.specs.declared.frames.Frame.{Frame}
+use Rattle.plain.specs.declared.calls.Going.{Going}
+use Rattle.plain.specs.declared.values.Value.{Value}
 use Rattle.running.specs.declared.leaving.Left.{Left}
 use Rattle.running.specs.Standing.{records, Row, methodBy, Placed, Standing, innermost, standing-back, passed, few-operands}
 use Rattle.running.specs.Calling.{entryAt, entry-small, results-are, parents-of}

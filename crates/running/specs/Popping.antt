@@ -18,14 +18,14 @@ use Rattle.reader.specs.Program.{Program}
 use Rattle.reader.specs.TypeCodes.{descOf, typesOf, codesIn, paramsIn, resultsIn, resultOf}
 use Rattle.reader.specs.CodeLaws.{params-length}
 use Rattle.rules.specs.Ancestry.{lineage, Parents}
-use Rattle.machine.specs.Heap.{Heap, heap, Val, valueFits}
-use Rattle.machine.specs.Machine.{stuck, Result, stopped, only, popArguments}
-use Rattle.machine.specs.Objects.{fits-here}
-use Rattle.machine.specs.ValueLaws.{valueOf}
-use Rattle.machine.specs.Windows.{valAt, locsFrom, opsOf}
-use Rattle.machine.specs.Calls.{windowAt}
-use Rattle.machine.specs.NextWindow.{locs-split}
-use Rattle.machine.specs.Arguments.{pop-few}
+use Rattle.plain.specs.Heap.{Heap, heap, Val, valueFits}
+use Rattle.plain.specs.Machine.{stuck, Result, stopped, only, popArguments}
+use Rattle.plain.specs.Objects.{fits-here}
+use Rattle.plain.specs.ValueLaws.{valueOf}
+use Rattle.plain.specs.Windows.{valAt, locsFrom, opsOf}
+use Rattle.plain.specs.Calls.{windowAt}
+use Rattle.plain.specs.NextWindow.{locs-split}
+use Rattle.plain.specs.Arguments.{pop-few}
 use Rattle.rules.specs.declared.types.Kin.{Kin}
 use Rattle.running.specs.declared.popping.Popped.{Popped}
 

@@ -28,19 +28,19 @@ use Rattle.rules.specs.Opcodes.{body}
 use Rattle.rules.specs.Sites.{front}
 use Rattle.verifier.specs.Besides.{Besides, besides-none}
 use Rattle.shaping.specs.Phases.{programNow}
-use Rattle.machine.specs.Heap.{Heap, heap, Val, empty, num, ref, readyAt, typeAt, toCell, markReady, store}
-use Rattle.machine.specs.Machine.{stuck, Result, next, stopped, Here, only, popAny, popArguments, resumed, goOn, pushOn, enter}
-use Rattle.machine.specs.Step.{withUnready, construct, callInit}
-use Rattle.machine.specs.ValueLaws.{valueOf}
-use Rattle.machine.specs.Objects.{unmade, unready-by, unmade-here}
-use Rattle.machine.specs.Windows.{valAt, locsFrom, locsOf, opsOf, length-ops}
-use Rattle.machine.specs.Calls.{windowAt, waiting}
-use Rattle.machine.specs.CallSteps.{Lent, Runs, goingOf, argsAt}
+use Rattle.plain.specs.Heap.{Heap, heap, Val, empty, num, ref, readyAt, typeAt, toCell, markReady, store}
+use Rattle.plain.specs.Machine.{stuck, Result, next, stopped, Here, only, popAny, popArguments, resumed, goOn, pushOn, enter}
+use Rattle.plain.specs.Step.{withUnready, construct, callInit}
+use Rattle.plain.specs.ValueLaws.{valueOf}
+use Rattle.plain.specs.Objects.{unmade, unready-by, unmade-here}
+use Rattle.plain.specs.Windows.{valAt, locsFrom, locsOf, opsOf, length-ops}
+use Rattle.plain.specs.Calls.{windowAt, waiting}
+use Rattle.plain.specs.CallSteps.{Lent, Runs, goingOf, argsAt}
 use Rattle.rules.specs.declared.site.Site.{Site}
 use Rattle.rules.specs.declared.instruction.Callee.{Callee}
-use Rattle.machine.specs.declared.frames.Frame.{Frame}
-use Rattle.machine.specs.declared.calls.Going.{Going}
-use Rattle.machine.specs.declared.values.Value.{Value}
+use Rattle.plain.specs.declared.frames.Frame.{Frame}
+use Rattle.plain.specs.declared.calls.Going.{Going}
+use Rattle.plain.specs.declared.values.Value.{Value}
 use Rattle.running.specs.declared.popping.Popped.{Popped}
 use Rattle.running.specs.declared.entering.Way.{Way}
 use Rattle.running.specs.Standing.{records, Row, methodBy, AtCall, Standing, Passed, passed, standing-turn}

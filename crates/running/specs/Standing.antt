@@ -30,11 +30,11 @@ use Rattle.verifier.specs.Besides.{Besides, besides-word, besides-front}
 use Rattle.shaping.specs.Phases.{Readied, readied-kept, programNow, shapeBy, ofAll}
 use Rattle.shaping.specs.Passing.{judged-pass, one-code, few-params}
 use Rattle.verifier.specs.Typing.{passes-kept}
-use Rattle.machine.specs.Heap.{heap}
-use Rattle.machine.specs.Machine.{Machine, machine}
-use Rattle.machine.specs.Calls.{windowAt, frameAt, callOf, waiting, Saved}
-use Rattle.machine.specs.CallSteps.{Lent, Waits, resumedAt}
-use Rattle.machine.specs.declared.frames.Frame.{Frame}
+use Rattle.plain.specs.Heap.{heap}
+use Rattle.plain.specs.Machine.{Machine, machine}
+use Rattle.plain.specs.Calls.{windowAt, frameAt, callOf, waiting, Saved}
+use Rattle.plain.specs.CallSteps.{Lent, Waits, resumedAt}
+use Rattle.plain.specs.declared.frames.Frame.{Frame}
 
 -- the word from which the records of the calls that wait stand
 abbrev pub records : ℕ

@@ -20,7 +20,7 @@ use Rattle.shaping.specs.MarkLaws.{start-is}
 use Rattle.rules.specs.Shape.{bodyClaims, formClaims, referenceClaims, rangeOk, catchClass, tableClaims, shapeClaims}
 use Rattle.rules.specs.Walk.{covers}
 use Rattle.shaping.specs.Phases.{shapeBy}
-use Rattle.machine.specs.Machine.{catcher}
+use Rattle.plain.specs.Machine.{catcher}
 
 module _ {K : Type 0} (k : K) where
   first-holds : (b : Bool) (cs : List (Claim K)) → verdict (claim k b ∷ cs) ≡ pass → b ≡ true

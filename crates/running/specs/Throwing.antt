@@ -16,15 +16,15 @@ use Rattle.reader.specs.Program.{Program, method}
 use Rattle.rules.specs.Opcodes.{body}
 use Rattle.rules.specs.Sites.{front}
 use Rattle.shaping.specs.Phases.{programNow}
-use Rattle.machine.specs.Heap.{Heap, heap, Val, ref, hasRoom, header, allocate, nextRef}
-use Rattle.machine.specs.HeapLaws.{room-in}
-use Rattle.machine.specs.Machine.{machine, Result, next, ended, stopped, uncaught, Here, only, call, nowhere, landing, landed, throw, fault, create, withRoom}
-use Rattle.machine.specs.ValueLaws.{valueOf}
-use Rattle.machine.specs.Windows.{endOf, ops-put, locs-put, opsOf, locsOf}
-use Rattle.machine.specs.Calls.{windowAt, frameAt, callOf, waiting, waiting-kept}
-use Rattle.machine.specs.CallSteps.{Lent, Runs}
-use Rattle.machine.specs.Landing.{atHandler}
-use Rattle.machine.specs.declared.frames.Frame.{Frame}
+use Rattle.plain.specs.Heap.{Heap, heap, Val, ref, hasRoom, header, allocate, nextRef}
+use Rattle.plain.specs.HeapLaws.{room-in}
+use Rattle.plain.specs.Machine.{machine, Result, next, ended, stopped, uncaught, Here, only, call, nowhere, landing, landed, throw, fault, create, withRoom}
+use Rattle.plain.specs.ValueLaws.{valueOf}
+use Rattle.plain.specs.Windows.{endOf, ops-put, locs-put, opsOf, locsOf}
+use Rattle.plain.specs.Calls.{windowAt, frameAt, callOf, waiting, waiting-kept}
+use Rattle.plain.specs.CallSteps.{Lent, Runs}
+use Rattle.plain.specs.Landing.{atHandler}
+use Rattle.plain.specs.declared.frames.Frame.{Frame}
 use Rattle.running.specs.Standing.{records, machineOf, Placed, Stacked, Standing, passed}
 use Rattle.running.specs.Throws.{OfBundle, Waiters, Shaped, landedAs, Holds, Lands}
 use Rattle.running.specs.declared.landing.Landed.{Landed}

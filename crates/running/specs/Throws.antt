@@ -25,13 +25,13 @@ use Rattle.shaping.specs.ScanLaws.{body-here}
 use Rattle.shaping.specs.Passing.{codes-one, judged-pass}
 use Rattle.shaping.specs.Phases.{Readied, programNow, shapeBy, ofAll}
 use Rattle.rules.specs.declared.site.Site.{Site}
-use Rattle.machine.specs.Machine.{Here, Landing, nowhere, landing, land, catcher, callsFrom}
-use Rattle.machine.specs.Calls.{windowAt, frameAt, callOf, waiting}
-use Rattle.machine.specs.CallSteps.{Runs}
-use Rattle.machine.specs.Catching.{namedIn, caughtIn, caughtOf, catcherBy, catcher-by}
-use Rattle.machine.specs.Landing.{atHandler, Finds, landedOr, land-running, land-waiting}
-use Rattle.machine.specs.declared.frames.Frame.{Frame}
-use Rattle.machine.specs.declared.catching.Caught.{Caught}
+use Rattle.plain.specs.Machine.{Here, Landing, nowhere, landing, land, catcher, callsFrom}
+use Rattle.plain.specs.Calls.{windowAt, frameAt, callOf, waiting}
+use Rattle.plain.specs.CallSteps.{Runs}
+use Rattle.plain.specs.Catching.{namedIn, caughtIn, caughtOf, catcherBy, catcher-by}
+use Rattle.plain.specs.Landing.{atHandler, Finds, landedOr, land-running, land-waiting}
+use Rattle.plain.specs.declared.frames.Frame.{Frame}
+use Rattle.plain.specs.declared.catching.Caught.{Caught}
 use Rattle.running.specs.Standing.{records, Row, passed}
 use Rattle.running.specs.Targets.{leads-inside}
 use Rattle.running.specs.declared.landing.Landed.{Landed}

@@ -20,19 +20,19 @@ use Rattle.rules.specs.Opcodes.{body}
 use Rattle.rules.specs.Sites.{front}
 use Rattle.verifier.specs.Besides.{besides-none}
 use Rattle.shaping.specs.Phases.{programNow}
-use Rattle.machine.specs.Heap.{Heap, heap, Val, empty, num, ref, readyAt, refOf, typeAt, toCell, refersTo, valueFits}
-use Rattle.machine.specs.Machine.{stuck, Result, stopped, Here, only, popAny, popArguments, resultRoom, receiver, withClass, fault, enter}
-use Rattle.machine.specs.Step.{chosen, callVirtual}
-use Rattle.machine.specs.ValueLaws.{valueOf}
-use Rattle.machine.specs.Objects.{nullOr, receiver-by, class-by, fits-here}
-use Rattle.machine.specs.Windows.{valAt, locsFrom, opsOf}
-use Rattle.machine.specs.Calls.{windowAt}
-use Rattle.machine.specs.CallSteps.{argsAt}
+use Rattle.plain.specs.Heap.{Heap, heap, Val, empty, num, ref, readyAt, refOf, typeAt, toCell, refersTo, valueFits}
+use Rattle.plain.specs.Machine.{stuck, Result, stopped, Here, only, popAny, popArguments, resultRoom, receiver, withClass, fault, enter}
+use Rattle.plain.specs.Step.{chosen, callVirtual}
+use Rattle.plain.specs.ValueLaws.{valueOf}
+use Rattle.plain.specs.Objects.{nullOr, receiver-by, class-by, fits-here}
+use Rattle.plain.specs.Windows.{valAt, locsFrom, opsOf}
+use Rattle.plain.specs.Calls.{windowAt}
+use Rattle.plain.specs.CallSteps.{argsAt}
 use Rattle.rules.specs.declared.site.Site.{Site}
 use Rattle.rules.specs.declared.instruction.Callee.{Callee}
-use Rattle.machine.specs.declared.frames.Frame.{Frame}
-use Rattle.machine.specs.declared.calls.Going.{Going}
-use Rattle.machine.specs.declared.values.Value.{Value}
+use Rattle.plain.specs.declared.frames.Frame.{Frame}
+use Rattle.plain.specs.declared.calls.Going.{Going}
+use Rattle.plain.specs.declared.values.Value.{Value}
 use Rattle.running.specs.declared.popping.Popped.{Popped}
 use Rattle.running.specs.declared.entering.Way.{Way}
 use Rattle.running.specs.Standing.{records, Row, methodBy, Standing, passed}

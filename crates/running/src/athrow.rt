@@ -7,12 +7,12 @@ ghost use Rattle.running.specs.Standing.{Standing};
 ghost use Rattle.running.specs.Athrow.{Checks, Athrows};
 use crate::throwing;
 use crate::throwing::Gone;
-use machine::frames::Frame;
-use machine::heap;
-use machine::values;
-use machine::values::RunType;
-use machine::values::Value;
-use machine::window::Turn;
+use plain::frames::Frame;
+use plain::heap;
+use plain::values;
+use plain::values::RunType;
+use plain::values::Value;
+use plain::window::Turn;
 use rules::types::Kin;
 
 // On, with an object and its class; a fault, of null; or stuck, where there is no object to throw.

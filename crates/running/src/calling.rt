@@ -6,9 +6,9 @@ ghost use Rattle.kit.specs.Words.{word};
 ghost use Rattle.classfiles.specs.Descriptors.{cls};
 ghost use Rattle.rules.specs.Ancestry.{lineage};
 ghost use Rattle.rules.specs.Sites.{front};
-ghost use Rattle.machine.specs.Heap.{heap, refersTo};
-ghost use Rattle.machine.specs.ValueLaws.{valueOf};
-ghost use Rattle.machine.specs.Objects.{unmade};
+ghost use Rattle.plain.specs.Heap.{heap, refersTo};
+ghost use Rattle.plain.specs.ValueLaws.{valueOf};
+ghost use Rattle.plain.specs.Objects.{unmade};
 ghost use Rattle.running.specs.Calling.{Called, StaticCall, staticBy};
 ghost use Rattle.running.specs.Receiving.{InitCall, initBy};
 ghost use Rattle.running.specs.Dispatching.{spotWord};
@@ -16,14 +16,14 @@ ghost use Rattle.running.specs.Virtual.{VirtualCall, Received, virtualBy
 use crate::entering::Way;
 use crate::entering::{self};
 use crate::popping::{self};
-use machine::calls::Going;
-use machine::frames::Frame;
-use machine::heap::{self};
-use machine::objects::{self};
-use machine::values::RunType;
-use machine::values::Value;
-use machine::values::{self};
-use machine::window::Turn;
+use plain::calls::Going;
+use plain::frames::Frame;
+use plain::heap::{self};
+use plain::objects::{self};
+use plain::values::RunType;
+use plain::values::Value;
+use plain::values::{self};
+use plain::window::Turn;
 use rules::instruction::Callee;
 use rules::site::Site;
 use rules::types::Kin;
@@ -216,7 +216,7 @@ fn spot(t: &[u8], c: u32, m: Callee) -> u32
 {
     let i = 1024 * (c as usize - 11);
     let j = 64 * (m.owner as usize - 11);
-    kit::word(t, 47136 + i + j + m.index as usize)
+    kit::word(t, 48800 + i + j + m.index as usize)
 }
 
 // The receiver v with its arguments, n above the first l operands.

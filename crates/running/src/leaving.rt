@@ -1,16 +1,16 @@
 // The instructions that return: back to the call that waits, or out of the run.
 ghost use mathlib.Core.Path.{_≡_};
 ghost use mathlib.Core.List.{[], _∷_};
-ghost use Rattle.machine.specs.ValueLaws.{valueOf};
+ghost use Rattle.plain.specs.ValueLaws.{valueOf};
 ghost use Rattle.running.specs.Standing.{Standing};
 ghost use Rattle.running.specs.Leaving.{Leaves, leaveBy, returnBy, Giving};
 use crate::popping::{self};
-use machine::calls::Going;
-use machine::calls::{self};
-use machine::frames::Frame;
-use machine::objects::{self};
-use machine::values::Value;
-use machine::window::Turn;
+use plain::calls::Going;
+use plain::calls::{self};
+use plain::frames::Frame;
+use plain::objects::{self};
+use plain::values::Value;
+use plain::window::Turn;
 use rules::site::Site;
 
 // On in the call that waited; or out of the run, with the value unless it is empty.
@@ -34,7 +34,7 @@ fn ending(end: u32, d: usize, k: Frame, value: Value) -> Left
     Left { going, value }
 }
 
-fn stuck(d: usize, k: Frame) -> Left
+pub fn stuck(d: usize, k: Frame) -> Left
     ensures { λ r. ⌜ r .going .end ≡ 6 ⌝ }
 {
     ending(Turn::STUCK, d, k, Value::empty())
@@ -76,7 +76,7 @@ fn give_none(
     }
 }
 
-fn give(
+pub fn give(
     b: &[u8],
     t: &[u8],
     s: &mut [u32],

@@ -9,9 +9,9 @@ ghost use Rattle.running.specs.Throws.{Shaped};
 ghost use Rattle.running.specs.Throwing.{Catching, hasSlot, Takes, Faults, Throws};
 use crate::landing;
 use crate::landing::Landed;
-use machine::frames::Frame;
-use machine::heap;
-use machine::values::Value;
+use plain::frames::Frame;
+use plain::heap;
+use plain::values::Value;
 
 // On in the call that catches, or the number of an end; how much of the heap is used then.
 pub struct Gone {

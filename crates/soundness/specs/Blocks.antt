@@ -10,7 +10,7 @@ use lib.Dec.{T, eqb, eqb→eq, leb→le}
 use Rattle.classfiles.specs.Descriptors.{Ref, cls, arr, Desc, dint, dref, dimensions}
 use Rattle.reader.specs.Program.{Program, layout}
 use Rattle.rules.specs.Types.{Key}
-use Rattle.machine.specs.Heap.{Heap, Val, cell, refOf, baseOf, typeAt, sizeAt, readyAt, elementAt, store, markReady, need, allocate, hasRoom, fromCell, valueFits}
+use Rattle.plain.specs.Heap.{Heap, Val, cell, refOf, baseOf, typeAt, sizeAt, readyAt, elementAt, store, markReady, need, allocate, hasRoom, fromCell, valueFits}
 use Rattle.soundness.specs.Cells.{stored, unstored, store-used, store-cells, alloc-used, alloc-cells, alloc-old, alloc-size, alloc-ready, alloc-new, alloc-type, Same, same-type, same-size, same-ready, same-element}
 use Rattle.soundness.specs.Typing.{Own, ready, born, isReady, HTy, hty, HTys, upd, upd-same, upd-else, VD, vdint, vdnul, vdref, Keeps, keeps-self, keeps-more, keepVD, zero-ok}
 

@@ -19,9 +19,9 @@ use Rattle.rules.specs.Types.{Key, at, Ty, top, ini, tysOf, refFits}
 use Rattle.rules.specs.States.{State, state, padded, parameterTys, startState}
 use Rattle.rules.specs.Frames.{Frame}
 use Rattle.rules.specs.Rule.{rule, arguments, calling}
-use Rattle.machine.specs.Heap.{Val, empty, ref, typeAt, readyAt, valueFits, paddedLocals}
-use Rattle.machine.specs.Machine.{only, popAny, receiver, withClass, resultRoom, enter}
-use Rattle.machine.specs.Step.{execute, chosen, callStatic, callVirtual}
+use Rattle.plain.specs.Heap.{Val, empty, ref, typeAt, readyAt, valueFits, paddedLocals}
+use Rattle.plain.specs.Machine.{only, popAny, receiver, withClass, resultRoom, enter}
+use Rattle.plain.specs.Step.{execute, chosen, callStatic, callVirtual}
 use Rattle.soundness.specs.Base.{All2, anil, acons, all2-map, all2-length, all2-append, all2-replicate}
 use Rattle.soundness.specs.Classes.{Link, zero-above}
 use Rattle.soundness.specs.Lookup.{Chosen, lookup-below, lookup-bundle}

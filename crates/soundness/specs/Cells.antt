@@ -8,7 +8,7 @@ use lib.Seq.{getD-append-add, getD-set-same, getD-set-other, getD-take, length-t
 use lib.Dec.{T, eqb, eqb→eq, ltb→lt}
 use Rattle.kit.specs.Bools.{T-false}
 use Rattle.classfiles.specs.Descriptors.{Ref, cls, arr, Desc, dint, dref, knownRef, knownDesc, dimensions, depthOf}
-use Rattle.machine.specs.Heap.{Heap, cell, intBase, descOf, refOf, baseOf, elementBase, typeAt, sizeAt, readyAt, elementAt, store, need, header, allocate}
+use Rattle.plain.specs.Heap.{Heap, cell, intBase, descOf, refOf, baseOf, elementBase, typeAt, sizeAt, readyAt, elementAt, store, need, header, allocate}
 
 -- ---- a store
 module _ (H : Heap) (i v : ℕ) where

@@ -12,7 +12,7 @@ use Rattle.reader.specs.BuiltIns.{throwable, firstClass}
 use Rattle.reader.specs.Program.{Program, methodTypeOr, class, method, classCount, isConstructor, upTo, below, methodSigs, lookup, layout}
 use Rattle.reader.specs.Link.{agrees}
 use Rattle.rules.specs.Types.{refFits, descFits}
-use Rattle.machine.specs.Heap.{intBase}
+use Rattle.plain.specs.Heap.{intBase}
 use Rattle.soundness.specs.Base.{either-of, left-of, right-of}
 
 -- what reading and linking have shown

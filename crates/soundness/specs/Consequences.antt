@@ -17,10 +17,10 @@ use Rattle.rules.specs.Types.{Key, Ty, top, int, null, ini, uninit, objectTy, i
 use Rattle.rules.specs.States.{State, state, topOf}
 use Rattle.rules.specs.Rule.{rule, calling, constructing}
 use Rattle.shaping.specs.Verify.{readShaped, verdictOf}
-use Rattle.machine.specs.Heap.{Heap, Val, empty, num, ref, readyAt, isNum, valueFits}
-use Rattle.machine.specs.Machine.{call, Machine, machine, heapOf, Result, next, stopped, stuck}
-use Rattle.machine.specs.Step.{step}
-use Rattle.machine.specs.Run.{isEntry, started}
+use Rattle.plain.specs.Heap.{Heap, Val, empty, num, ref, readyAt, isNum, valueFits}
+use Rattle.plain.specs.Machine.{call, Machine, machine, heapOf, Result, next, stopped, stuck}
+use Rattle.plain.specs.Step.{step}
+use Rattle.plain.specs.Run.{isEntry, started}
 use Rattle.soundness.specs.Base.{first-of, second-of, both-of}
 use Rattle.soundness.specs.Accepted.{accepted}
 use Rattle.soundness.specs.Classes.{Link}

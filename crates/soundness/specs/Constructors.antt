@@ -18,9 +18,9 @@ use Rattle.rules.specs.Types.{Key, at, self, Ty, top, int, null, ini, uninit, t
 use Rattle.rules.specs.States.{state, operand, replaceAll, parameterTys}
 use Rattle.rules.specs.Frames.{Frame}
 use Rattle.rules.specs.Rule.{rule, keyClass, keyOk, initOk, flagAfter, initialised, arguments, constructing}
-use Rattle.machine.specs.Heap.{Val, ref, typeAt, readyAt, markReady}
-use Rattle.machine.specs.Machine.{popAny, pushOn, enter}
-use Rattle.machine.specs.Step.{execute, withUnready, construct, callInit}
+use Rattle.plain.specs.Heap.{Val, ref, typeAt, readyAt, markReady}
+use Rattle.plain.specs.Machine.{popAny, pushOn, enter}
+use Rattle.plain.specs.Step.{execute, withUnready, construct, callInit}
 use Rattle.soundness.specs.Base.{either-of, All2, anil, acons, all2-map}
 use Rattle.soundness.specs.Classes.{Link, parent, below-trans, below-parent}
 use Rattle.soundness.specs.Resolution.{MethodOk}

@@ -11,9 +11,9 @@ use Rattle.classfiles.specs.Descriptors.{Desc}
 use Rattle.reader.specs.Program.{Program, method, below}
 use Rattle.reader.specs.Link.{program}
 use Rattle.shaping.specs.Verify.{readShaped, verdictOf}
-use Rattle.machine.specs.Heap.{Heap, Val, valueFits}
-use Rattle.machine.specs.Machine.{End, returned, uncaught, outOfSteps, heapFull, depthFull, stuck}
-use Rattle.machine.specs.Run.{Ran, isEntry, ending, answerOf}
+use Rattle.plain.specs.Heap.{Heap, Val, valueFits}
+use Rattle.plain.specs.Machine.{End, returned, uncaught, outOfSteps, heapFull, depthFull, stuck}
+use Rattle.plain.specs.Run.{Ran, isEntry, ending, answerOf}
 
 -- what is returned is as the descriptor has it: so many values, each of which fits in the final heap
 unfoldable pub resultsFit : Program → Heap → List Desc → List Val → Bool

@@ -15,9 +15,9 @@ use Rattle.rules.specs.Types.{int, ini, tyOf, objectTy, throwableTy, intArray, 
 use Rattle.rules.specs.States.{State, topOf}
 use Rattle.rules.specs.Rule.{rule, returned, arguments, calling}
 use Rattle.rules.specs.Walk.{operandsFit}
-use Rattle.machine.specs.Heap.{Val}
-use Rattle.machine.specs.Machine.{call, Machine, machine}
-use Rattle.machine.specs.Step.{execute, step}
+use Rattle.plain.specs.Heap.{Val}
+use Rattle.plain.specs.Machine.{call, Machine, machine}
+use Rattle.plain.specs.Step.{execute, step}
 use Rattle.soundness.specs.Base.{All2}
 use Rattle.soundness.specs.Classes.{Link}
 use Rattle.soundness.specs.Resolution.{InstrOk, instruction-ok}

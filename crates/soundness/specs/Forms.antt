@@ -15,10 +15,10 @@ use Rattle.rules.specs.Types.{Ty, top, int, null, ini, uninit, objectTy, isInt,
 use Rattle.rules.specs.States.{topOf, operand}
 use Rattle.rules.specs.Rule.{rule}
 use Rattle.rules.specs.Walk.{frameAt, intoFrame, branchClaims}
-use Rattle.machine.specs.Integers.{holds, wrap}
-use Rattle.machine.specs.Heap.{Val, empty, num, readyAt, isRef, toCell, valueFits}
-use Rattle.machine.specs.Machine.{withInt, localAt, setLocals, push}
-use Rattle.machine.specs.Step.{execute, objectDesc}
+use Rattle.plain.specs.Integers.{holds, wrap}
+use Rattle.plain.specs.Heap.{Val, empty, num, readyAt, isRef, toCell, valueFits}
+use Rattle.plain.specs.Machine.{withInt, localAt, setLocals, push}
+use Rattle.plain.specs.Step.{execute, objectDesc}
 use Rattle.soundness.specs.Base.{AllT-left, All2, acons, all2-set, all2-put, all2-at}
 use Rattle.soundness.specs.Classes.{Link}
 use Rattle.soundness.specs.Typing.{ready, vtop, vint, vnull, vnulc, vini, vraw, toVT, fromVT, Peeled, peeled, peel, Popped, pnil, pcons, popped}

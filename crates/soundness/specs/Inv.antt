@@ -19,8 +19,8 @@ use Rattle.rules.specs.Types.{Key, at, self, Ty, ini, refFits}
 use Rattle.rules.specs.States.{State, state, stack, slotsFit, stateFits}
 use Rattle.rules.specs.Frames.{Frame}
 use Rattle.rules.specs.Walk.{frameAt, intoFrame, covers, handlerClaims, handlersClaims, walk, walkClaims}
-use Rattle.machine.specs.Heap.{Heap, Val, ref}
-use Rattle.machine.specs.Machine.{Call, call, Machine, machine, End, heapFull, depthFull, Result, next, ended, stopped, only, catcher, Landing, nowhere, landing, landingAt, land, landed}
+use Rattle.plain.specs.Heap.{Heap, Val, ref}
+use Rattle.plain.specs.Machine.{Call, call, Machine, machine, End, heapFull, depthFull, Result, next, ended, stopped, only, catcher, Landing, nowhere, landing, landingAt, land, landed}
 use Rattle.soundness.specs.Base.{first-of, second-of, guarded, AllT-left, AllT-right, All2, anil, acons, all2-map, all2-length, same-truth}
 use Rattle.soundness.specs.Demand3.{EndOk}
 use Rattle.soundness.specs.Classes.{Link}

@@ -17,11 +17,11 @@ use Rattle.rules.specs.Lines.{newClassAt}
 use Rattle.rules.specs.Types.{Key, at, sameKey, Ty, top, int, ini, uninit, tyOf, objectTy, throwableTy, intArray, objectArray, elementTy, isDint, refFits, fits}
 use Rattle.rules.specs.States.{state, topOf, operand}
 use Rattle.rules.specs.Rule.{rule}
-use Rattle.machine.specs.Integers.{negative}
-use Rattle.machine.specs.Heap.{Val, num, ref, cell, elementAt, store, allocate, fromCell, toCell, valueFits}
-use Rattle.machine.specs.Heap.{sizeAt as countAt}
-use Rattle.machine.specs.Machine.{throw}
-use Rattle.machine.specs.Step.{execute, load, makeArray, make, getField, putField, objectDesc}
+use Rattle.plain.specs.Integers.{negative}
+use Rattle.plain.specs.Heap.{Val, num, ref, cell, elementAt, store, allocate, fromCell, toCell, valueFits}
+use Rattle.plain.specs.Heap.{sizeAt as countAt}
+use Rattle.plain.specs.Machine.{throw}
+use Rattle.plain.specs.Step.{execute, load, makeArray, make, getField, putField, objectDesc}
 use Rattle.soundness.specs.Base.{All2, acons, all2-length}
 use Rattle.soundness.specs.Classes.{Link, below-refl, ref-refl}
 use Rattle.soundness.specs.Resolution.{FieldOk}

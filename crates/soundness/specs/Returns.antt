@@ -12,9 +12,9 @@ use Rattle.rules.specs.Instruction.{Instr, ireturn, areturn, return}
 use Rattle.rules.specs.Resolve.{found}
 use Rattle.rules.specs.Types.{at, Ty, int, tysOf}
 use Rattle.rules.specs.Rule.{rule, returnsInt, returnsRef, returnsVoid, returned}
-use Rattle.machine.specs.Heap.{Heap, Val, valueFits}
-use Rattle.machine.specs.Machine.{Call, only, giveBack}
-use Rattle.machine.specs.Step.{execute, selfReady, leave, leaveWith}
+use Rattle.plain.specs.Heap.{Heap, Val, valueFits}
+use Rattle.plain.specs.Machine.{Call, only, giveBack}
+use Rattle.plain.specs.Step.{execute, selfReady, leave, leaveWith}
 use Rattle.soundness.specs.Demand3.{resultsFit}
 use Rattle.soundness.specs.Base.{both-of, All2, anil, acons}
 use Rattle.soundness.specs.Classes.{Link}

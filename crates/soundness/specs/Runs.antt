@@ -10,8 +10,8 @@ use Rattle.reader.specs.BuiltIns.{firstClass}
 use Rattle.reader.specs.Program.{Program, method}
 use Rattle.reader.specs.Link.{Read, refused, program}
 use Rattle.shaping.specs.Verify.{readShaped, typeRead, verdictOf}
-use Rattle.machine.specs.Laws.{run-answer}
-use Rattle.machine.specs.Run.{Ran, isEntry, ending, Lent, sizesOk, runOf}
+use Rattle.plain.specs.Laws.{run-answer}
+use Rattle.plain.specs.Run.{Ran, isEntry, ending, Lent, sizesOk, runOf}
 use Rattle.soundness.specs.Demand3.{EndOk}
 use Rattle.soundness.specs.Theorem.{sound}
 

@@ -19,10 +19,10 @@ use Rattle.rules.specs.States.{State, state}
 use Rattle.rules.specs.Frames.{Frame}
 use Rattle.rules.specs.Rule.{Rule, rule}
 use Rattle.rules.specs.Walk.{frameAt, intoFrame, walk, onward}
-use Rattle.machine.specs.Heap.{Heap, Val, ref, refOf, baseOf, typeAt, readyAt, elementAt, allocate, hasRoom, nextRef, valueFits}
-use Rattle.machine.specs.Heap.{sizeAt as countAt}
-use Rattle.machine.specs.Machine.{Call, Result, Here, popArguments, goOn, withRoom, create, throw, fault, receiver, withElement}
-use Rattle.machine.specs.Step.{element}
+use Rattle.plain.specs.Heap.{Heap, Val, ref, refOf, baseOf, typeAt, readyAt, elementAt, allocate, hasRoom, nextRef, valueFits}
+use Rattle.plain.specs.Heap.{sizeAt as countAt}
+use Rattle.plain.specs.Machine.{Call, Result, Here, popArguments, goOn, withRoom, create, throw, fault, receiver, withElement}
+use Rattle.plain.specs.Step.{element}
 use Rattle.soundness.specs.Base.{All2, acons, all2-map}
 use Rattle.soundness.specs.Classes.{Link, ref-trans}
 use Rattle.soundness.specs.Cells.{class-again}

@@ -15,10 +15,10 @@ use Rattle.reader.specs.Program.{Program, class, method, classCount, isConstruc
 use Rattle.reader.specs.Link.{program}
 use Rattle.rules.specs.Frames.{Frame}
 use Rattle.shaping.specs.Verify.{readShaped}
-use Rattle.machine.specs.Heap.{Heap, heap, num}
-use Rattle.machine.specs.Machine.{Machine, heapOf, End, returned, uncaught, outOfSteps, heapFull, depthFull, stuck, Result, next, ended, stopped}
-use Rattle.machine.specs.Step.{step}
-use Rattle.machine.specs.Run.{endNumber, Ran, turn, run, allInts, isEntry, started, ending, entered, answered, answerOf}
+use Rattle.plain.specs.Heap.{Heap, heap, num}
+use Rattle.plain.specs.Machine.{Machine, heapOf, End, returned, uncaught, outOfSteps, heapFull, depthFull, stuck, Result, next, ended, stopped}
+use Rattle.plain.specs.Step.{step}
+use Rattle.plain.specs.Run.{endNumber, Ran, turn, run, allInts, isEntry, started, ending, entered, answered, answerOf}
 use Rattle.soundness.specs.Base.{first-of, second-of, All2, anil, acons}
 use Rattle.soundness.specs.Demand3.{EndOk, Sound}
 use Rattle.soundness.specs.Accepted.{Accepted, Judged, accepted}

@@ -16,7 +16,7 @@ use Rattle.rules.specs.Types.{Key, at, self, sameKey, Ty, top, int, null, ini, 
 use Rattle.rules.specs.States.{operand, slotsFit, replaceAll, noCopy}
 use Rattle.rules.specs.Rule.{keyClass}
 use Rattle.rules.specs.Walk.{operandsFit}
-use Rattle.machine.specs.Heap.{Val, num, ref, fromCell, toCell}
+use Rattle.plain.specs.Heap.{Val, num, ref, fromCell, toCell}
 use Rattle.soundness.specs.Base.{All2, anil, acons}
 use Rattle.soundness.specs.Classes.{Link, ref-trans}
 

@@ -6,8 +6,8 @@ use mathlib.Core.List.{List, [], _∷_}
 use lib.ListN.{replicate}
 use Rattle.reader.specs.Computing.{reading}
 use Rattle.verifier.specs.Computing.{verifying}
-use Rattle.machine.specs.Run.{noVerdict}
-use Rattle.machine.specs.Computing.{running}
+use Rattle.plain.specs.Run.{noVerdict}
+use Rattle.plain.specs.Computing.{running}
 use Rattle.examples.specs.Table.{Run, Case, Holds, Computes, holds, accepted, case}
 
 -- a virtual call that an overriding method takes

@@ -1,6 +1,6 @@
 use native.Mathlib.Omega.{arith}
 use Rattle.running.specs.Entering.{besides-six}
-use Rattle.machine.specs.Calls.{record-put}
+use Rattle.plain.specs.Calls.{record-put}
 use borrow.Author.Needs.{needs}
 use Rattle.running.proofs.entering.save.Statement.{statement}
 use Rattle.running.proofs.entering.save.Tie as tie

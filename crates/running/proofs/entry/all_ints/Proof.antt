@@ -1,5 +1,5 @@
 use Rattle.running.specs.Entry.{ints-next, ints-stop, ints-end}
-use Rattle.machine.specs.Run.{allInts}
+use Rattle.plain.specs.Run.{allInts}
 use Rattle.reader.specs.TypeCodes.{paramsIn}
 use mathlib.Core.Path.{_≡_, refl}
 use Prim.Native.Nat.{_-_}

@@ -1,4 +1,4 @@
-use Rattle.machine.specs.Landing.{atHandler}
+use Rattle.plain.specs.Landing.{atHandler}
 use borrow.Author.Needs.{needs}
 use Rattle.running.proofs.landing.at_handler.Statement.{statement}
 use Rattle.running.proofs.landing.at_handler.Tie as tie

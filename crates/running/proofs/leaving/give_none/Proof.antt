@@ -1,5 +1,5 @@
 use native.Mathlib.Omega.{arith}
-use Rattle.machine.specs.declared.values.Value.{Value}
+use Rattle.plain.specs.declared.values.Value.{Value}
 use mathlib.Core.Path.{ap, _∙_}
 use mathlib.Core.List.{[]}
 use Rattle.running.specs.Leaving.{given-stuck, given-last, given-back, back-asked, given-none}

@@ -1,5 +1,5 @@
 use Rattle.running.specs.Throwing.{standing-shaped, standing-land, catching, take-asked, room-there, fault-stuck, fault-full, fault-caught, fault-uncaught}
-use Rattle.machine.specs.HeapLaws.{room-in}
+use Rattle.plain.specs.HeapLaws.{room-in}
 use native.Mathlib.Omega.{arith}
 use borrow.Author.Needs.{needs}
 use Rattle.running.proofs.throwing.fault.Statement.{statement}

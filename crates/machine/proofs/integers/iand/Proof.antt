@@ -1,9 +1,0 @@
-use Rattle.machine.specs.IntegerLaws.{integers}
-use Rattle.machine.proofs.integers.iand.Statement.{statement}
-use Rattle.machine.proofs.integers.iand.Tie as tie
-
-returns : tie.Need-returns
-returns c = search integers
-
-pub iand-spec : {M : Type 1} → statement M
-iand-spec = tie.close (tie.spec returns)

@@ -1,9 +1,0 @@
-use Rattle.machine.specs.ValueLaws.{tags}
-use Rattle.machine.proofs.values.Value.num.Statement.{statement}
-use Rattle.machine.proofs.values.Value.num.Tie as tie
-
-returns : tie.Need-returns
-returns c = search tags
-
-pub num-spec : {M : Type 1} → statement M
-num-spec = tie.close (tie.spec returns)

@@ -1,0 +1,24 @@
+use mathlib.Core.Path.{_∙_}
+use Rattle.plain.specs.HeapTurns.{likewise}
+use Rattle.plain.specs.HeapForms.{iaload-as}
+use borrow.Author.Needs.{needs}
+use Rattle.plain.proofs.memory.iaload.Statement.{statement}
+use Rattle.plain.proofs.memory.iaload.Tie as tie
+use Rattle.plain.proofs.memory.iaload.Reads as reads
+use Rattle.plain.proofs.memory.iaload.Lts as lts
+use Rattle.plain.proofs.memory.load.Reads as load-reads
+
+load-requires : tie.Need-load-requires
+load-requires c κs = search needs
+
+same-length : tie.Need-same-length
+same-length c = search needs
+
+same-length-2 : tie.Need-same-length-2
+same-length-2 c = search needs
+
+returns : tie.Need-returns
+returns c = likewise _ _ _ _ _ _ _ _ _ _ _ (iaload-as _ _ _ _ _ _ _) (c .before .before .before .before .load .ensures)
+
+pub iaload-spec : {M : Type 1} → statement M
+iaload-spec = tie.close (tie.spec load-requires same-length same-length-2 returns)
