@@ -1,12 +1,12 @@
 -- Calls of methods keep the invariant: the callee starts in the state that it was checked from, the caller waits.
 use Prim.Native.Nat.{ℕ, suc, _+_, _-_, _<_, _≤_}
 use mathlib.Core.Path.{_≡_, refl, ap, _∙_}
-use mathlib.Core.Bool.{Bool, true, false, cond, not}
+use mathlib.Core.Bool.{Bool, true, false, cond}
 use mathlib.Core.List.{List, [], _∷_, _++_, reverse, reverseAux, reverse-reverse, append-nil}
 use mathlib.Core.Option.{some}
 use native.Mathlib.Omega.{arith}
 use lib.ListN.{length, drop, replicate, length-append}
-use lib.Dec.{T, T-not, leb, ltb, eqb→eq, leb→le, le→leb}
+use lib.Dec.{T, leb, ltb, eqb→eq, leb→le, le→leb}
 use Rattle.kit.specs.Bools.{T-true, T-false}
 use Rattle.classfiles.specs.Limits.{maxCalls}
 use Rattle.reader.specs.BuiltIns.{firstClass, nullPointer}
@@ -22,10 +22,10 @@ use Rattle.rules.specs.Rule.{rule, arguments, calling}
 use Rattle.plain.specs.Heap.{Val, empty, ref, typeAt, readyAt, valueFits, paddedLocals}
 use Rattle.plain.specs.Machine.{only, popAny, receiver, withClass, resultRoom, enter}
 use Rattle.plain.specs.Step.{execute, chosen, callStatic, callVirtual}
-use Rattle.soundness.specs.Base.{All2, anil, acons, all2-map, all2-length, all2-append, all2-replicate}
-use Rattle.soundness.specs.Classes.{Link, zero-above}
-use Rattle.soundness.specs.Lookup.{Chosen, lookup-below, lookup-bundle}
-use Rattle.soundness.specs.Resolution.{MethodOk}
+use Rattle.facts.specs.Classes.{Link, zero-above}
+use Rattle.facts.specs.Lookup.{Chosen, lookup-below, lookup-bundle}
+use Rattle.facts.specs.Resolution.{MethodOk, virtual-plain, virtual-bound}
+use Rattle.soundness.specs.Pairs.{All2, anil, acons, all2-map, all2-length, all2-append, all2-replicate}
 use Rattle.soundness.specs.Typing.{ready, hty, HTys, VD, VT, vtop, vnulc, vini, vdref, Keeps, keeps-self, toVT, keepVT, Popped, pnil, pcons}
 use Rattle.soundness.specs.Blocks.{Block, HOK, fits-ok}
 use Rattle.soundness.specs.Walk.{Into, entered}
@@ -133,18 +133,7 @@ module _ {P : Program} (L : Link P) {E : List Desc} (n : Now P E) where
       args-ok L n (reverse (found P m .params)) (ini (cls (m .named)) ∷ []) [] [] p′ anil _ go
     where
       plain : T (isConstructor (found P m)) → ⊥
-      plain t = no (isConstructor (found P m)) t st
-        where
-          no : (b : Bool) → T b → T (cond b false (not (found P m .static))) → ⊥
-          no true t s = s
-          no false t s = t
-
-      bound : found P m .static ≡ false
-      bound = T-false (found P m .static) (T-not (found P m .static) (yes′ (isConstructor (found P m)) st))
-        where
-          yes′ : (b : Bool) → T (cond b false (not (found P m .static))) → T (not (found P m .static))
-          yes′ true s = absurd s
-          yes′ false s = s
+      plain = virtual-plain P m st
 
       bundle : firstClass ≤ m .owner
       bundle = lookup-bundle P L (found P m .sig) plain (m .named) (m .owner) (m .index) (k .first plain)
@@ -169,7 +158,7 @@ module _ {P : Program} (L : Link P) {E : List Desc} (n : Now P E) where
           not-init = T-false (isConstructor (method P (w .class′) (w .index))) (λ t. plain (rw (w .sig) at t))
 
           not-static : method P (w .class′) (w .index) .static ≡ false
-          not-static = w .static ∙ bound
+          not-static = w .static ∙ virtual-bound P m st
 
           typed′ : All2 (VT P (method P (w .class′) (w .index)) (n .Ψ) (suc (depth n)) (λ j. 0)) (ref (suc b) ∷ args) (parameterTys (method P (w .class′) (w .index)))
           typed′ = rw (not-static, not-init, L .owned (w .class′) (w .index) (w .bundle) (w .there), w .params)

@@ -21,10 +21,10 @@ use Rattle.plain.specs.Heap.{Heap, Val, empty, num, ref, readyAt, isNum, valueF
 use Rattle.plain.specs.Machine.{call, Machine, machine, heapOf, Result, next, stopped, stuck}
 use Rattle.plain.specs.Step.{step}
 use Rattle.plain.specs.Run.{isEntry, started}
-use Rattle.soundness.specs.Base.{first-of, second-of, both-of}
+use Rattle.facts.specs.Base.{first-of, second-of, both-of}
+use Rattle.facts.specs.Classes.{Link}
+use Rattle.facts.specs.Linking.{linking}
 use Rattle.soundness.specs.Accepted.{accepted}
-use Rattle.soundness.specs.Classes.{Link}
-use Rattle.soundness.specs.Linking.{linking}
 use Rattle.soundness.specs.Typing.{HTys, VT, vtop, vint, vnull, vnulc, vini, vraw, vdref, fit, Peeled, peeled, Popped, pnil, pcons}
 use Rattle.soundness.specs.Blocks.{HOK, fits-ok}
 use Rattle.soundness.specs.Walk.{Here as At}
@@ -231,7 +231,7 @@ asked-made P H (u ∷ us) (v ∷ vs) h = both-of (usedMade H u v) _ (one-made u 
 module _ (s : List ℕ) (v : verdictOf s ≡ pass) (P : Program) (e : readShaped s ≡ program P) (i j : ℕ) (h : T (isEntry P i j)) (args : List ℕ)
     (n : length args ≡ length (method P (firstClass + i) j .params)) (cells : List ℕ) (K : Machine) (r : Reached P (started P cells i j args) K) where
   abbrev link : Link P
-  link = linking (accepted s v P e)
+  link = linking (accepted s v P e .before .read)
 
   abbrev passed : Accepts P
   passed = passing (accepted s v P e)

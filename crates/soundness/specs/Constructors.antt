@@ -21,9 +21,10 @@ use Rattle.rules.specs.Rule.{rule, keyClass, keyOk, initOk, flagAfter, initiali
 use Rattle.plain.specs.Heap.{Val, ref, typeAt, readyAt, markReady}
 use Rattle.plain.specs.Machine.{popAny, pushOn, enter}
 use Rattle.plain.specs.Step.{execute, withUnready, construct, callInit}
-use Rattle.soundness.specs.Base.{either-of, All2, anil, acons, all2-map}
-use Rattle.soundness.specs.Classes.{Link, parent, below-trans, below-parent}
-use Rattle.soundness.specs.Resolution.{MethodOk}
+use Rattle.facts.specs.Base.{either-of}
+use Rattle.facts.specs.Classes.{Link, parent, below-trans, below-parent}
+use Rattle.facts.specs.Resolution.{MethodOk}
+use Rattle.soundness.specs.Pairs.{All2, anil, acons, all2-map}
 use Rattle.soundness.specs.Typing.{ready, born, hty, HTys, upd, VD, VT, vraw, Keeps, Others, keeps-down, keeps-then, keepVD, Peeled, peeled, peel, Popped, pnil, popped, swapped, hit-made, hit-top, own-others, own-keeps, own-at}
 use Rattle.soundness.specs.Blocks.{Block, readied, lent}
 use Rattle.soundness.specs.Inv.{Checked, Done, dnone, dself, FlagOK, fset, fclr, Me, nobody, someone, Slots, typed, Top, Catches, Good, only-ok, cond-ok, keepFlag, catches}
@@ -101,7 +102,7 @@ module _ {P : Program} (L : Link P) {E : List Desc} (n : Now P E) where
           init = T-true (isConstructor (found P m)) st
 
           bound : found P m .static ≡ false
-          bound = L .bound (m .owner) (m .index) far (k .there) st
+          bound = L .bound (m .owner) (m .index) st
 
           void : found P m .results ≡ []
           void = L .void (m .owner) (m .index) far (k .there) st

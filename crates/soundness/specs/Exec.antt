@@ -18,9 +18,9 @@ use Rattle.rules.specs.Walk.{operandsFit}
 use Rattle.plain.specs.Heap.{Val}
 use Rattle.plain.specs.Machine.{call, Machine, machine}
 use Rattle.plain.specs.Step.{execute, step}
-use Rattle.soundness.specs.Base.{All2}
-use Rattle.soundness.specs.Classes.{Link}
-use Rattle.soundness.specs.Resolution.{InstrOk, instruction-ok}
+use Rattle.facts.specs.Classes.{Link}
+use Rattle.facts.specs.Resolution.{InstrOk, instruction-ok}
+use Rattle.soundness.specs.Pairs.{All2}
 use Rattle.soundness.specs.Typing.{vint, fit, Peeled, peeled}
 use Rattle.soundness.specs.Walk.{Here as At}
 use Rattle.soundness.specs.Inv.{Slots, typed, Inv, inv, Good}

@@ -19,8 +19,9 @@ use Rattle.plain.specs.Integers.{holds, wrap}
 use Rattle.plain.specs.Heap.{Val, empty, num, readyAt, isRef, toCell, valueFits}
 use Rattle.plain.specs.Machine.{withInt, localAt, setLocals, push}
 use Rattle.plain.specs.Step.{execute, objectDesc}
-use Rattle.soundness.specs.Base.{AllT-left, All2, acons, all2-set, all2-put, all2-at}
-use Rattle.soundness.specs.Classes.{Link}
+use Rattle.facts.specs.Base.{AllT-left}
+use Rattle.facts.specs.Classes.{Link}
+use Rattle.soundness.specs.Pairs.{All2, acons, all2-set, all2-put, all2-at}
 use Rattle.soundness.specs.Typing.{ready, vtop, vint, vnull, vnulc, vini, vraw, toVT, fromVT, Peeled, peeled, peel, Popped, pnil, pcons, popped}
 use Rattle.soundness.specs.Blocks.{passes}
 use Rattle.soundness.specs.Inv.{typed, Good, only-ok, cond-ok}

@@ -21,9 +21,10 @@ use Rattle.rules.specs.Frames.{Frame}
 use Rattle.rules.specs.Walk.{frameAt, intoFrame, covers, handlerClaims, handlersClaims, walk, walkClaims}
 use Rattle.plain.specs.Heap.{Heap, Val, ref}
 use Rattle.plain.specs.Machine.{Call, call, Machine, machine, End, heapFull, depthFull, Result, next, ended, stopped, only, catcher, Landing, nowhere, landing, landingAt, land, landed}
-use Rattle.soundness.specs.Base.{first-of, second-of, guarded, AllT-left, AllT-right, All2, anil, acons, all2-map, all2-length, same-truth}
+use Rattle.facts.specs.Base.{first-of, second-of, guarded, AllT-left, AllT-right, same-truth}
+use Rattle.facts.specs.Classes.{Link}
+use Rattle.soundness.specs.Pairs.{All2, anil, acons, all2-map, all2-length}
 use Rattle.soundness.specs.Demand3.{EndOk}
-use Rattle.soundness.specs.Classes.{Link}
 use Rattle.soundness.specs.Tables.{Table, found-stands}
 use Rattle.soundness.specs.Typing.{ready, hty, HTys, VD, VT, vini, Keeps, keeps-down, keeps-self, keeps-then, keepVT, fitAll}
 use Rattle.soundness.specs.Blocks.{HOK}

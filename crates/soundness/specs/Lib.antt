@@ -1,15 +1,8 @@
 pub mod Demand3
-pub mod Base
+pub mod Pairs
 pub mod Accepted
-pub mod Parsing
-pub mod Files
 pub mod Tables
 pub mod Walk
-pub mod Classes
-pub mod Layout
-pub mod Lookup
-pub mod Resolution
-pub mod Linking
 pub mod Cells
 pub mod Typing
 pub mod Blocks

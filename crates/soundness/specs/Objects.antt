@@ -22,9 +22,9 @@ use Rattle.plain.specs.Heap.{Val, num, ref, cell, elementAt, store, allocate, f
 use Rattle.plain.specs.Heap.{sizeAt as countAt}
 use Rattle.plain.specs.Machine.{throw}
 use Rattle.plain.specs.Step.{execute, load, makeArray, make, getField, putField, objectDesc}
-use Rattle.soundness.specs.Base.{All2, acons, all2-length}
-use Rattle.soundness.specs.Classes.{Link, below-refl, ref-refl}
-use Rattle.soundness.specs.Resolution.{FieldOk}
+use Rattle.facts.specs.Classes.{Link, below-refl, ref-refl}
+use Rattle.facts.specs.Resolution.{FieldOk}
+use Rattle.soundness.specs.Pairs.{All2, acons, all2-length}
 use Rattle.soundness.specs.Cells.{array-again, class-again, class-cell}
 use Rattle.soundness.specs.Typing.{ready, born, HTy, hty, HTys, upd, upd-same, VD, vdint, VT, vint, vini, vraw, Keeps, Others, keeps-others, keeps-self, keeps-more, toVT, fromVT, cell-ok, Peeled, peeled, Popped, pnil, pcons, renew, swapped, unswapped, hit-top}
 use Rattle.soundness.specs.Blocks.{slotDesc, Block, written, fits-ok, passes}
@@ -119,7 +119,7 @@ module _ {P : Program} (L : Link P) {E : List Desc} (n : Now P E) where
   unfolding execute rule makeArray
   newarray-ok D h a (pcons (vint {a = k}) (pnil {vs = r} ts)) =
       cond-ok (negative k) (λ _. fault-ok L n negativeSize (omega arith) (omega arith) a (n .locals))
-      (λ _. create-ok L n (arr D) k 1 ready refl (array-again (classCount P) (L .few) D h) tt _ (λ hk.
+      (λ _. create-ok L n (arr D) k 1 ready refl (array-again (classCount P) (omega (arith, L .few)) D h) tt _ (λ hk.
       on′ L n (allocate (n .H) (arr D) k 1) a tt hk (keeps-more (deep n) (n .Ψ) (n .H .used) (hty (arr D) ready) (free L n))
       (go (keepSlots (keeps-more (suc (deep n)) (n .Ψ) (n .H .used) (hty (arr D) ready) (free L n)) (typed (n .flag) (n .me) (n .locals) ts)))))
     where

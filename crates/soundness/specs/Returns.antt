@@ -15,9 +15,10 @@ use Rattle.rules.specs.Rule.{rule, returnsInt, returnsRef, returnsVoid, returne
 use Rattle.plain.specs.Heap.{Heap, Val, valueFits}
 use Rattle.plain.specs.Machine.{Call, only, giveBack}
 use Rattle.plain.specs.Step.{execute, selfReady, leave, leaveWith}
+use Rattle.facts.specs.Base.{both-of}
+use Rattle.facts.specs.Classes.{Link}
 use Rattle.soundness.specs.Demand3.{resultsFit}
-use Rattle.soundness.specs.Base.{both-of, All2, anil, acons}
-use Rattle.soundness.specs.Classes.{Link}
+use Rattle.soundness.specs.Pairs.{All2, anil, acons}
 use Rattle.soundness.specs.Typing.{ready, HTys, VD, keeps-self, Popped, pnil}
 use Rattle.soundness.specs.Blocks.{HOK, fits-ok}
 use Rattle.soundness.specs.Inv.{Done, dnone, dself, FlagOK, fclr, Calls, cnil, ccons, inv, Good, goes, ends, only-ok}

@@ -23,8 +23,8 @@ use Rattle.plain.specs.Heap.{Heap, Val, ref, refOf, baseOf, typeAt, readyAt, el
 use Rattle.plain.specs.Heap.{sizeAt as countAt}
 use Rattle.plain.specs.Machine.{Call, Result, Here, popArguments, goOn, withRoom, create, throw, fault, receiver, withElement}
 use Rattle.plain.specs.Step.{element}
-use Rattle.soundness.specs.Base.{All2, acons, all2-map}
-use Rattle.soundness.specs.Classes.{Link, ref-trans}
+use Rattle.facts.specs.Classes.{Link, ref-trans}
+use Rattle.soundness.specs.Pairs.{All2, acons, all2-map}
 use Rattle.soundness.specs.Cells.{class-again}
 use Rattle.soundness.specs.Typing.{Own, ready, isReady, hty, HTys, upd, upd-same, VD, vdnul, vdref, VT, vnull, vnulc, vini, Keeps, keeps-self, keeps-more, fromVT, keepVT, Popped, pcons}
 use Rattle.soundness.specs.Blocks.{SizeOk, Block, HOK, vacant, grown, fits-ok}

@@ -17,8 +17,8 @@ use Rattle.rules.specs.Types.{Ty}
 use Rattle.rules.specs.States.{State, stack, parameterTys}
 use Rattle.rules.specs.Frames.{Frame, frame, Written, formAt, good, judged, frameAt, stateOf, framesFrom, tableAt, framesIn, frames}
 use Rattle.rules.specs.Walk.{frameAt as stateAt}
-use Rattle.soundness.specs.Parsing.{not-ok}
-use Rattle.soundness.specs.Base.{first-of, second-of}
+use Rattle.facts.specs.Parsing.{not-ok}
+use Rattle.facts.specs.Base.{first-of, second-of}
 
 pub record Stands (P : Program) (M : Method) (o : ℕ) (F : State) : Type 0 where
   pub start : T (isStart (lines P M) o)

@@ -19,13 +19,14 @@ use Rattle.plain.specs.Heap.{Heap, heap, num}
 use Rattle.plain.specs.Machine.{Machine, heapOf, End, returned, uncaught, outOfSteps, heapFull, depthFull, stuck, Result, next, ended, stopped}
 use Rattle.plain.specs.Step.{step}
 use Rattle.plain.specs.Run.{endNumber, Ran, turn, run, allInts, isEntry, started, ending, entered, answered, answerOf}
-use Rattle.soundness.specs.Base.{first-of, second-of, All2, anil, acons}
+use Rattle.facts.specs.Base.{first-of, second-of}
+use Rattle.facts.specs.Parsing.{results-few}
+use Rattle.facts.specs.Classes.{Link}
+use Rattle.facts.specs.Linking.{linking}
+use Rattle.soundness.specs.Pairs.{All2, anil, acons}
 use Rattle.soundness.specs.Demand3.{EndOk, Sound}
 use Rattle.soundness.specs.Accepted.{Accepted, Judged, accepted}
 use Rattle.soundness.specs.Tables.{table-ok}
-use Rattle.soundness.specs.Parsing.{results-few}
-use Rattle.soundness.specs.Classes.{Link}
-use Rattle.soundness.specs.Linking.{linking}
 use Rattle.soundness.specs.Typing.{HTys, VD, vdint}
 use Rattle.soundness.specs.Blocks.{nothing-ok}
 use Rattle.soundness.specs.Inv.{Checked, dnone, fclr, nobody, cnil, Inv, inv, Good, goes, ends, full, deep}
@@ -52,7 +53,7 @@ passing {P = P} a = record { passed = λ c m h l. go (c - firstClass) c (omega a
     go : (i c : ℕ) → c ≡ firstClass + i → (m : ℕ) → firstClass ≤ c → m < length (class P c .methods) → (fs : List Frame) × Checked P (method P c m) fs
     go i c e m h l =
         let j : Judged P (method P c m) = rw e (a .judged i m (rw e at l)) in
-        let L : Link P = linking a in
+        let L : Link P = linking (a .before .read) in
         let f : length (method P c m .results) ≤ 1 = rw (L .results c m h l) (results-few (L .number) (method P c m .sig .descriptor) 0) in
         (j .table, record { claims = j .claims; table = table-ok P (method P c m) (j .table) (j .end) (j .read); single = f })
 
@@ -92,7 +93,7 @@ start-ok {P} L acc i j e args cells n =
     (entering L 0 0 (λ j. 0) (map num args) (k .1) (rw plain (fclr dnone)) nobody (rw (e .static) (args-typed (method P c j) 0 (λ j. 0) (ints-typed args (method P c j .params) (e .ints) n)))) cnil
   where
     plain : isConstructor (method P (firstClass + i) j) ≡ false
-    plain = T-false (isConstructor (method P (firstClass + i) j)) (λ t. let z : method P (firstClass + i) j .static ≡ false = L .bound (firstClass + i) j (omega arith) (e .there) t in let y = e .static in let w : _≡_ {A = ℕ} 0 1 = cc in omega arith)
+    plain = T-false (isConstructor (method P (firstClass + i) j)) (λ t. let z : method P (firstClass + i) j .static ≡ false = L .bound (firstClass + i) j t in let y = e .static in let w : _≡_ {A = ℕ} 0 1 = cc in omega arith)
 
 -- ---- the theorem
 answer : (s : List ℕ) (P : Program) → readShaped s ≡ program P → (i j : ℕ) → T (isEntry P i j) → (args : List ℕ) → length args ≡ length (method P (firstClass + i) j .params) → (cells : List ℕ) (budget : ℕ)
@@ -103,7 +104,7 @@ answer s P e i j h args n cells budget = rw (e, T-true (isEntry P i j) h, eq-eqb
 pub sound : Sound
 sound s v P e i j h args n cells budget =
     let a : Accepted s P = accepted s v P e in
-    let L : Link P = linking a in
+    let L : Link P = linking (a .before .read) in
     let acc : Accepts P = passing a in (
       run P budget 0 (started P cells i j args),
       answer s P e i j h args n cells budget,

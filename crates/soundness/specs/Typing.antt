@@ -17,8 +17,8 @@ use Rattle.rules.specs.States.{operand, slotsFit, replaceAll, noCopy}
 use Rattle.rules.specs.Rule.{keyClass}
 use Rattle.rules.specs.Walk.{operandsFit}
 use Rattle.plain.specs.Heap.{Val, num, ref, fromCell, toCell}
-use Rattle.soundness.specs.Base.{All2, anil, acons}
-use Rattle.soundness.specs.Classes.{Link, ref-trans}
+use Rattle.facts.specs.Classes.{Link, ref-trans}
+use Rattle.soundness.specs.Pairs.{All2, anil, acons}
 
 -- An object is ready, or it is the uninitialised object k of the call with d calls below it.
 pub data Own : Type 0 where

@@ -17,7 +17,7 @@ use Rattle.rules.specs.States.{State, flag, stack, stateFits, startState}
 use Rattle.rules.specs.Frames.{Frame}
 use Rattle.rules.specs.Rule.{rule}
 use Rattle.rules.specs.Walk.{frameAt, intoFrame, meets, merged, operandsFit, operandClaims, handlersClaims, branchClaims, instructionClaims, onward, walk, walkClaims}
-use Rattle.soundness.specs.Base.{AllT-left, AllT-right}
+use Rattle.facts.specs.Base.{AllT-left, AllT-right}
 
 -- what the scan lists is what the machine fetches
 pub data Lined (P : Program) (M : Method) : ℕ → List Line → Type 0 where

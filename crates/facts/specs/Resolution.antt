@@ -1,11 +1,12 @@
 -- What an instruction names was found: its field has its place and type in every class below, its method is there.
 use Prim.Native.Nat.{ℕ, _+_, _-_, _*_, _<_}
 use mathlib.Core.Path.{_≡_, refl, _∙_}
-use mathlib.Core.Bool.{Bool, true, false, cond}
+use mathlib.Core.Bool.{Bool, true, false, cond, not}
 use mathlib.Core.List.{List, [], _∷_}
 use native.Mathlib.Omega.{arith}
 use lib.ListN.{length, getD, length-map}
-use lib.Dec.{T, eqb, ltb, ltb→lt}
+use lib.Dec.{T, T-not, eqb, ltb, ltb→lt}
+use Rattle.kit.specs.Bools.{T-false}
 use Rattle.classfiles.specs.Limits.{maxDimensions}
 use Rattle.texts.specs.Reading.{Res, ok, bad}
 use Rattle.texts.specs.Names.{isInit}
@@ -15,9 +16,9 @@ use Rattle.reader.specs.Program.{Program, Field, Method, noField, Signature, si
 use Rattle.rules.specs.Instruction.{Instr, FieldRef, MethodRef, nop, aconstnull, pop, dup, dupx1, swap, ineg, arraylength, iaload, aaload, iastore, aastore, athrow, ireturn, areturn, return, iconst, iload, aload, istore, astore, goto, new, iinc, ibin, idiv, ifint, ificmp, ifacmp, ifnull, getfield, putfield, invokevirtual, invokespecial, invokestatic, newarray, checkcast, instanceof, illegal, unresolved}
 use Rattle.rules.specs.Resolve.{Resolved, nothing, number, type, field, methodOf, numberOf, knownType, classEntry, withClass, withSignature, fieldFound, methodFound, ownMethod, fieldIn, methodIn, resolveEntry, resolve, asNumber, asType, asField, asMethod, newOf, arrayOf, found, isStaticCall, isVirtualCall, isInitCall}
 use Rattle.rules.specs.Opcodes.{Operands, Row, row, rows, within, rowIn, rowOf, codeOf, make, instruction}
-use Rattle.soundness.specs.Classes.{Link, parent, up-refl, up-below, below-trans}
-use Rattle.soundness.specs.Layout.{layout-own, layout-below}
-use Rattle.soundness.specs.Lookup.{At, seek-at, index-at, method-there, method-sig}
+use Rattle.facts.specs.Classes.{Link, parent, up-refl, up-below, below-trans}
+use Rattle.facts.specs.Layout.{layout-own, layout-below}
+use Rattle.facts.specs.Lookup.{At, seek-at, index-at, method-there, method-sig}
 
 -- a field that was found: its place and its type in each class below the named one
 pub record FieldOk (P : Program) (f : FieldRef) : Type 0 where
@@ -29,6 +30,22 @@ pub record MethodOk (P : Program) (m : MethodRef) : Type 0 where
   pub above : T (below P (m .named) (m .owner))
   pub own : T (isConstructor (found P m)) → m .owner ≡ m .named
   pub first : (T (isConstructor (found P m)) → ⊥) → lookup P methodSigs (found P m .sig) (m .named) ≡ spot (m .owner) (m .index)
+
+-- one that invokevirtual calls is no constructor and is not static
+module _ (P : Program) (m : MethodRef) (v : T (isVirtualCall P m)) where
+  pub virtual-plain : T (isConstructor (found P m)) → ⊥
+  virtual-plain t = go (isConstructor (found P m)) t v
+    where
+      go : (b : Bool) → T b → T (cond b false (not (found P m .static))) → ⊥
+      go true t s = s
+      go false t s = t
+
+  pub virtual-bound : found P m .static ≡ false
+  virtual-bound = T-false (found P m .static) (T-not (found P m .static) (go (isConstructor (found P m)) v))
+    where
+      go : (b : Bool) → T (cond b false (not (found P m .static))) → T (not (found P m .static))
+      go true s = absurd s
+      go false s = s
 
 abbrev pub ResolvedOk : Program → Resolved → Type 0
 ResolvedOk P nothing = Unit {0}

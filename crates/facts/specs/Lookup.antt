@@ -1,6 +1,6 @@
 -- The first of a name and descriptor from a class upward: where it stands; and what a class below finds in its place.
 use Prim.Native.Nat.{ℕ, zero, suc, _<_, _≤_}
-use mathlib.Core.Path.{_≡_, refl, sym, ap, _∙_}
+use mathlib.Core.Path.{_≡_, refl, sym, ap, subst, _∙_}
 use mathlib.Core.Bool.{Bool, true, false, cond}
 use mathlib.Core.List.{List, [], _∷_}
 use mathlib.Core.Logic.{_⊎_, inl, inr}
@@ -15,8 +15,8 @@ use Rattle.classfiles.specs.Descriptors.{methodTypeAt}
 use Rattle.reader.specs.BuiltIns.{firstClass}
 use Rattle.reader.specs.Program.{Program, Class, Method, noMethod, methodTypeOr, Signature, signature, class, method, classCount, upTo, below, sameSignature, indexOf, methodSigs, nowhere, spot, seek, lookup}
 use Rattle.reader.specs.Link.{agrees}
-use Rattle.soundness.specs.Base.{first-of, second-of, either-of, left-of, right-of, same-truth}
-use Rattle.soundness.specs.Classes.{Link, parent, up-below, up-root}
+use Rattle.facts.specs.Base.{first-of, second-of, either-of, left-of, right-of, same-truth}
+use Rattle.facts.specs.Classes.{Link, parent, up-below, up-root}
 
 abbrev pub noSignature : Signature
 noSignature = signature [] []
@@ -71,6 +71,22 @@ module _ (P : Program) (sigs : Class → List Signature) (g : Signature) where
           rw (← u, ← v) (record { above = left-of (eqb c c) _ (eqb-refl c); there = x .there; is = x .is })
       go ih false p true e = no-spot d j e
       go ih false p false e = let x = ih e in record { above = right-of (eqb c d) _ (x .above); there = x .there; is = x .is }
+
+  -- the class that has it finds it in itself
+  pub seek-own : (n c d j : ℕ) → seek P sigs g n c ≡ spot d j → (k : ℕ) → 1 ≤ k → seek P sigs g k d ≡ spot d j
+  unfolding seek
+  seek-own zero c d j e k l = no-spot d j e
+  seek-own (suc n) c d j e k l = go (λ x. seek-own n (parent P c) d j x k l) (has c) refl (eqb c 0) e
+    where
+      here : has c ≡ true → (k : ℕ) → 1 ≤ k → seek P sigs g k c ≡ spot c (indexOf g (sigs (class P c)))
+      here p zero l = absurd (omega arith)
+      here p (suc k) l = rw p refl
+
+      go : (seek P sigs g n (parent P c) ≡ spot d j → seek P sigs g k d ≡ spot d j) → (b : Bool) → has c ≡ b → (z : Bool)
+          → cond b (spot c (indexOf g (sigs (class P c)))) (cond z nowhere (seek P sigs g n (parent P c))) ≡ spot d j → seek P sigs g k d ≡ spot d j
+      go ih true p z e = let u : c ≡ d = cc in subst (λ (x : ℕ). seek P sigs g k x ≡ spot d j) u (here p k l ∙ e)
+      go ih false p true e = no-spot d j e
+      go ih false p false e = ih e
 
   -- a step more changes nothing, but at Object
   seek-steady : (n c d j : ℕ) → T (upTo P n c 0) → (d ≡ 0 → ⊥) → seek P sigs g (suc n) c ≡ spot d j → seek P sigs g n c ≡ spot d j

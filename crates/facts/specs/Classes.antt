@@ -1,5 +1,5 @@
 -- The order of the classes: reflexive and transitive; and that of types.
-use Prim.Native.Nat.{ℕ, zero, suc, _<_, _≤_}
+use Prim.Native.Nat.{ℕ, zero, suc, _+_, _<_, _≤_}
 use mathlib.Core.Path.{_≡_, sym}
 use mathlib.Core.Bool.{false}
 use mathlib.Core.List.{[]}
@@ -7,19 +7,19 @@ use mathlib.Core.Logic.{_⊎_, inl, inr}
 use lib.ListN.{length}
 use lib.Dec.{T, eqb, eqb→eq, eqb-refl}
 use Rattle.texts.specs.Names.{Text, init}
+use Rattle.classfiles.specs.Limits.{maxClasses}
 use Rattle.classfiles.specs.Descriptors.{Ref, cls, arr, Desc, dint, dref, methodTypeAt}
 use Rattle.reader.specs.BuiltIns.{throwable, firstClass}
 use Rattle.reader.specs.Program.{Program, methodTypeOr, class, method, classCount, isConstructor, upTo, below, methodSigs, lookup, layout}
 use Rattle.reader.specs.Link.{agrees}
 use Rattle.rules.specs.Types.{refFits, descFits}
-use Rattle.plain.specs.Heap.{intBase}
-use Rattle.soundness.specs.Base.{either-of, left-of, right-of}
+use Rattle.facts.specs.Base.{either-of, left-of, right-of}
 
 -- what reading and linking have shown
 pub record Link (P : Program) : Type 0 where
   pub root : class P 0 .parent ≡ 0
   pub one : 1 ≤ classCount P
-  pub few : classCount P < intBase
+  pub few : classCount P ≤ firstClass + maxClasses
   pub ends : (c : ℕ) → T (below P c 0)
   pub bare : length (class P 0 .fields) ≡ 0
   pub plain : (c : ℕ) → c < firstClass → layout P c ≡ []
@@ -31,7 +31,7 @@ pub record Link (P : Program) : Type 0 where
   pub params : (c j : ℕ) → firstClass ≤ c → j < length (class P c .methods) → method P c j .params ≡ methodTypeOr (methodTypeAt number (method P c j .sig .descriptor) 0) .params
   pub results : (c j : ℕ) → firstClass ≤ c → j < length (class P c .methods) → method P c j .results ≡ methodTypeOr (methodTypeAt number (method P c j .sig .descriptor) 0) .results
   pub over : (c j : ℕ) → firstClass ≤ c → j < length (class P c .methods) → T (agrees P (method P c j .static) (lookup P methodSigs (method P c j .sig) (class P c .parent)))
-  pub bound : (c j : ℕ) → firstClass ≤ c → j < length (class P c .methods) → T (isConstructor (method P c j)) → method P c j .static ≡ false
+  pub bound : (c j : ℕ) → T (isConstructor (method P c j)) → method P c j .static ≡ false
   pub void : (c j : ℕ) → firstClass ≤ c → j < length (class P c .methods) → T (isConstructor (method P c j)) → method P c j .results ≡ []
 
 abbrev pub parent : Program → ℕ → ℕ

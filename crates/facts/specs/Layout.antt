@@ -10,8 +10,8 @@ use lib.Seq.{getD-append-add}
 use lib.Dec.{T, eqb, eqb→eq, eqb-refl}
 use Rattle.classfiles.specs.Descriptors.{dint}
 use Rattle.reader.specs.Program.{Program, Field, noField, class, classCount, upTo, below, ownTypes, layoutTo, layout}
-use Rattle.soundness.specs.Base.{either-of}
-use Rattle.soundness.specs.Classes.{Link, parent}
+use Rattle.facts.specs.Base.{either-of}
+use Rattle.facts.specs.Classes.{Link, parent}
 
 module _ (P : Program) where
   -- more steps than the chain is long change nothing

@@ -13,7 +13,7 @@ use Rattle.classfiles.specs.Descriptors.{MethodType, methodTypeAt}
 use Rattle.classfiles.specs.Pool.{Constant, text, utf8IndexAt}
 use Rattle.classfiles.specs.Members.{Found, Body, Member, accessAt, nameAt, slots, methodTypeOk, descriptorAt, attributesAt, memberAt}
 use Rattle.classfiles.specs.Bundle.{ClassFile, magicAt, membersAt, classFileAt, classFilesAt, bundleAt}
-use Rattle.soundness.specs.Parsing.{not-ok, then-ok, test-ok, Each, enil, econs, many-each}
+use Rattle.facts.specs.Parsing.{not-ok, then-ok, test-ok, Each, enil, econs, many-each}
 
 -- a method as it was read
 pub record Read (m : Member) : Type 0 where

@@ -1,4 +1,4 @@
--- What reading and linking give: the record `Link`, from an accepted bundle.
+-- What reading and linking give: the record `Link`, from a bundle that was read.
 use Prim.Native.Nat.{ℕ, zero, suc, _+_, _-_, _<_, _≤_}
 use mathlib.Core.Path.{_≡_, refl, sym, ap, _∙_}
 use mathlib.Core.Bool.{false}
@@ -17,11 +17,11 @@ use Rattle.classfiles.specs.Bundle.{ClassFile, zero′}
 use Rattle.reader.specs.BuiltIns.{BuiltIn, builtIns, firstClass, object, throwable}
 use Rattle.reader.specs.Program.{Program, Class, Method, noClass, noMethod, class, method, classCount, isConstructor, numberIn, classNames, methodOf, classOf, classesFrom, builtInsFrom, programOf, upTo, below, methodSigs, lookup, layoutTo, layout}
 use Rattle.reader.specs.Link.{chainClaims, allKnown, agrees, fieldClaims, methodClaims, memberClaims}
-use Rattle.soundness.specs.Base.{AllT-left, AllT-right, second-of, right-of}
-use Rattle.soundness.specs.Parsing.{Each, each-at, results-length}
-use Rattle.soundness.specs.Files.{Read, File, bundle-read}
-use Rattle.soundness.specs.Accepted.{Linked, Accepted}
-use Rattle.soundness.specs.Classes.{Link, parent, up-refl}
+use Rattle.facts.specs.Base.{AllT-left, AllT-right, second-of, right-of}
+use Rattle.facts.specs.Parsing.{Each, each-at, results-length}
+use Rattle.facts.specs.Files.{Read, File, bundle-read}
+use Rattle.facts.specs.Shown.{Linked, WasRead}
+use Rattle.facts.specs.Classes.{Link, parent, up-refl}
 
 abbrev noFile : ClassFile
 noFile = record { start = 0; pool = []; name = []; super = zero′; fields = []; methods = [] }
@@ -61,6 +61,14 @@ built-init k [] c j h l = absurd (omega arith)
 built-init k (b ∷ bs) zero zero h l = refl
 built-init k (b ∷ bs) zero (suc j) h l = absurd (omega arith)
 built-init k (b ∷ bs) (suc c) j h l = built-init (suc k) bs c j (omega arith) l
+
+-- it is not static
+built-bound : (k : ℕ) (bs : List BuiltIn) (c j : ℕ) → getD (getD (builtInsFrom k bs) c noClass .methods) j noMethod .static ≡ false
+unfolding builtInsFrom
+built-bound k [] c j = refl
+built-bound k (b ∷ bs) zero zero = refl
+built-bound k (b ∷ bs) zero (suc j) = refl
+built-bound k (b ∷ bs) (suc c) j = built-bound (suc k) bs c j
 
 built-length : (k : ℕ) (bs : List BuiltIn) → length (builtInsFrom k bs) ≡ length bs
 unfolding builtInsFrom
@@ -217,11 +225,16 @@ module _ (fs : List ClassFile) where
           let d = all-claims (methodClaims (programOf fs) (x .file)) (f .methods) b j noMember (x .there) in
           rw (x .is) (second-of (allKnown (programOf fs) _) _ (d .1 .0))
 
-      bound : (c j : ℕ) → firstClass ≤ c → j < length (class (programOf fs) c .methods) → T (isConstructor (method (programOf fs) c j)) → method (programOf fs) c j .static ≡ false
-      bound c j h k t =
-          let x = mine c j h k in
-          let m : Read (getD (getD fs (x .file) noFile .methods) j noMember) = each-at (each-at r (x .file) noFile (x .inside) .methods) j noMember (x .there) in
-          ap (λ (m : Method). m .static) (x .made) ∙ m .bound (rw (x .made) at t)
+      bound : (c j : ℕ) → T (isConstructor (method (programOf fs) c j)) → method (programOf fs) c j .static ≡ false
+      bound c j t = go (decLt c firstClass) (decLt j (length (class (programOf fs) c .methods)))
+        where
+          go : Dec (c < firstClass) → Dec (j < length (class (programOf fs) c .methods)) → method (programOf fs) c j .static ≡ false
+          go (yes h) d = ap (λ (C : Class). getD (C .methods) j noMethod .static) (built-class c h) ∙ built-bound 0 builtIns c j
+          go (no h) (no k) = ap (λ (m : Method). m .static) (List·getD-eq-default (class (programOf fs) c .methods) noMethod (omega arith))
+          go (no h) (yes k) =
+              let x = mine c j (omega arith) k in
+              let m : Read (getD (getD fs (x .file) noFile .methods) j noMember) = each-at (each-at r (x .file) noFile (x .inside) .methods) j noMember (x .there) in
+              ap (λ (m : Method). m .static) (x .made) ∙ m .bound (rw (x .made) at t)
 
       void : (c j : ℕ) → firstClass ≤ c → j < length (class (programOf fs) c .methods) → T (isConstructor (method (programOf fs) c j)) → method (programOf fs) c j .results ≡ []
       void c j h k t =
@@ -234,8 +247,8 @@ module _ (fs : List ClassFile) where
           empty [] e = refl
           empty (a ∷ l) e = absurd (omega arith)
 
--- every accepted bundle is linked
-pub linking : {s : List ℕ} {P : Program} → Accepted s P → Link P
+-- every bundle that was read is linked
+pub linking : {s : List ℕ} {P : Program} → WasRead s P → Link P
 linking {s} a =
     let b = bundle-read s (a .files) (a .end) (a .read) in
     rw (a .is) (link (a .files) (a .linked) (b .0) (b .1))

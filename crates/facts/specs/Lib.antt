@@ -1,0 +1,10 @@
+pub mod Base
+pub mod Shown
+pub mod Parsing
+pub mod Files
+pub mod Classes
+pub mod Layout
+pub mod Lookup
+pub mod Resolution
+pub mod Linking
+pub mod Scratch

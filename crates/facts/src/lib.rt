@@ -1,0 +1,1 @@
+// What phases A to C give: theorems alone, in specs/.
