@@ -1,16 +1,42 @@
 //! What judging a bundle costs, as ratios to a byte-by-byte FNV-1a pass over the same bytes, best of many.
 
+use std::process::ExitCode;
 use std::time::Instant;
 
 use flosquedo_outside::{bundle, bundles, fnv1a64, names_in};
+use flosquedo_proved::{Entry, Machine};
 
-use crate::archive::{Judge, Part};
 use crate::bundles::{branches, covered, methods, pool_heavy, straight, Naming};
+use crate::part::{Judge, Part};
 
 const ROUNDS: usize = 400;
+const STEPS: u32 = 1_000_000;
+
+/// A method of the sample `Bench`.
+pub struct Sample {
+    pub method: u32,
+    pub name: &'static str,
+}
+
+const fn sample(method: u32, name: &'static str) -> Sample {
+    Sample { method, name }
+}
+
+/// What the machine is measured on.
+pub const BENCHES: [Sample; 5] = [
+    sample(1, "sieve"),
+    sample(2, "list"),
+    sample(3, "sort"),
+    sample(4, "calls"),
+    sample(6, "virtual"),
+];
 
 /// What reading, linking and clearing costs.
-pub fn measure_reader() {
+pub fn measure_reader() -> ExitCode {
+    if !Part::Reader.is_linked() {
+        eprintln!("built without the reader's archive: run `rt staticlib reader` at the repository's root, then build again");
+        return ExitCode::from(2);
+    }
     let mut bench = Bench::new(Part::Reader);
     let prefixed = Naming::Prefixed(240);
     bench.row("pool-heavy, 16 classes", &pool_heavy(16, 3_900));
@@ -53,10 +79,11 @@ pub fn measure_reader() {
     ] {
         bench.row(name, &bundle);
     }
+    ExitCode::SUCCESS
 }
 
 /// What the whole verification costs, and how it grows.
-pub fn measure_verifier() {
+pub fn measure_verifier() -> ExitCode {
     let mut bench = Bench::new(Part::Verifier);
     bench.jobs();
     bench.row("the largest job", &largest_job());
@@ -78,6 +105,42 @@ pub fn measure_verifier() {
             &covered(count),
         );
     }
+    ExitCode::SUCCESS
+}
+
+/// What a step costs beside the independent implementation, over a million steps each.
+pub fn measure_machine() -> ExitCode {
+    let bytes = include_bytes!("../../samples/Bench.bundle");
+    let mut machine = Machine::new();
+    let mut heap = vec![0; 16_384];
+    println!("what\tns a step\tindependent, ns a step\tratio");
+    for Sample { method, name } in BENCHES {
+        let entry = Entry {
+            class: 0,
+            method,
+            arguments: &[i32::MAX as u32],
+            budget: STEPS,
+        };
+        let steps = machine.run(bytes, &mut heap, entry).map(|run| run.steps);
+        assert_eq!(steps, Ok(STEPS), "{} is to run out of steps", name);
+        let proved = best(|| {
+            machine
+                .run(bytes, &mut heap, entry)
+                .map_or(0, |run| run.steps)
+        });
+        let independent = best(|| {
+            flosquedo_reference::run(bytes, &mut heap, 0, method, entry.arguments, STEPS).count
+        });
+        let steps = f64::from(STEPS);
+        println!(
+            "{}\t{:.1}\t{:.1}\t{:.2}",
+            name,
+            proved / steps,
+            independent / steps,
+            proved / independent
+        );
+    }
+    ExitCode::SUCCESS
 }
 
 struct Bench {
@@ -146,7 +209,7 @@ fn largest_job() -> Vec<u8> {
 }
 
 /// The shortest of many runs, in nanoseconds; long ones are run less often.
-fn best<T: Copy>(mut run: impl FnMut() -> T) -> f64 {
+pub fn best<T: Copy>(mut run: impl FnMut() -> T) -> f64 {
     let start = Instant::now();
     let mut least = f64::INFINITY;
     for round in 0..ROUNDS {
@@ -165,7 +228,7 @@ fn hashed(bytes: &[u8]) -> u64 {
 }
 
 /// The value, by a way that the compiler does not see through.
-fn keep<T: Copy>(value: T) -> T {
+pub fn keep<T: Copy>(value: T) -> T {
     // SAFETY: it reads a local that has a value.
     unsafe { std::ptr::read_volatile(&value) }
 }

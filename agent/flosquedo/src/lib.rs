@@ -1,18 +1,9 @@
 //! Verifies, explains and runs bundles of Java class files.
 //!
-//! [`engine`] judges and runs; everything else reads files, names what stands in
-//! them and puts answers into words. Only [`engine::chosen`] knows which engine it is.
-//!
-//! ```
-//! use flosquedo::engine::{chosen, Engine};
-//!
-//! let verdict = chosen().verify(b"no class file");
-//! assert_eq!((verdict.number, verdict.place), (3, 0));
-//! ```
+//! `flosquedo_proved` judges and runs; this crate reads files, names what stands in them and puts answers into words.
 #![forbid(unsafe_code)]
 
 pub mod commands;
-pub mod engine;
 pub mod explain;
 pub mod outline;
 pub mod source;

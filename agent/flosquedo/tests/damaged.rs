@@ -2,11 +2,11 @@
 
 mod common;
 
-use flosquedo::engine::{chosen, Engine};
 use flosquedo::explain::{acceptance, refusal};
 use flosquedo::source::Source;
 use flosquedo_mutator::{mutate, Aim};
 use flosquedo_outside::{bundles, corpus};
+use flosquedo_proved::Verifier;
 use std::collections::BTreeSet;
 use std::fs;
 
@@ -19,7 +19,7 @@ fn explain(bytes: &[u8]) -> u32 {
         bytes: bytes.to_vec(),
         parts: Vec::new(),
     };
-    let verdict = chosen().verify(bytes);
+    let verdict = Verifier::new().verify(bytes);
     if verdict.is_accepted() {
         assert!(acceptance(&source).starts_with("bundle: accepted"));
         return 0;

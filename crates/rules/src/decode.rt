@@ -35,7 +35,7 @@ fn both(x: Bytes) -> usize
 }
 
 // A byte with its sign, as 32 bits.
-fn spread_byte(a: u8) -> u32
+pub fn spread_byte(a: u8) -> u32
     ensures { λ r. ⌜ r ≡ extend 8 a ⌝ }
 {
     if a < 128 {
@@ -45,7 +45,7 @@ fn spread_byte(a: u8) -> u32
 }
 
 // The two operand bytes likewise.
-fn spread_half(x: Bytes) -> u32
+pub fn spread_half(x: Bytes) -> u32
     ensures { λ r. ⌜ r ≡ extend 16 (x .first * 256 + x .second) ⌝ }
 {
     let v = both(x) as u32;
@@ -56,7 +56,7 @@ fn spread_half(x: Bytes) -> u32
 }
 
 // Where a branch leads.
-fn target(x: Bytes) -> u16
+pub fn target(x: Bytes) -> u16
     ensures { λ r. ⌜ r ≡ (x .at + (x .first * 256 + x .second)) % 2 ^ 16 ⌝ }
 {
     ((x.at % 65536 + both(x)) % 65536) as u16
@@ -241,7 +241,7 @@ pub fn named_word(t: &[u8], c: usize, i: usize) -> u32
     0
 }
 
-fn field(w: u32) -> Field
+pub fn field(w: u32) -> Field
     ensures { λ r. ⌜ fieldOf r ≡ fieldIn w ⌝ }
 {
     Field {

@@ -1,9 +1,9 @@
 //! `check`: verdicts in words.
 
 use super::{help, misuse, Reply, REFUSED};
-use crate::engine::{self, Engine};
 use crate::explain;
 use crate::source::{load, Source};
+use flosquedo_proved::Verifier;
 use std::ffi::OsString;
 use std::path::PathBuf;
 
@@ -24,7 +24,7 @@ pub fn check(words: &[OsString]) -> Reply {
 
 /// Adds the words about one bundle, and the status of a refusal.
 pub fn check_source(source: &Source, reply: &mut Reply) {
-    let verdict = engine::chosen().verify(&source.bytes);
+    let verdict = Verifier::new().verify(&source.bytes);
     if verdict.is_accepted() {
         reply.output.push_str(&explain::acceptance(source));
     } else {

@@ -2,11 +2,11 @@
 
 use super::check::check_source;
 use super::{argument_words, help, misuse, Reply, REFUSED};
-use crate::engine::{self, End, Ended, Engine, Entry, Outcome};
 use crate::explain::BUILT_IN_CLASSES;
 use crate::outline::{self, shown_text, Member, Outline};
 use crate::source::{load_one, Trouble};
 use crate::{LARGEST_BUDGET, LARGEST_HEAP};
+use flosquedo_proved::{End, Entry, Machine, Run};
 use std::ffi::OsString;
 use std::path::Path;
 
@@ -40,12 +40,9 @@ fn run_named(path: &Path, name: &str, words: &[OsString]) -> Result<Reply, Troub
         arguments: &arguments,
         budget: LARGEST_BUDGET,
     };
-    let ended = match engine::chosen().run(&source.bytes, &mut heap, entry) {
-        Outcome::Ended(ended) => ended,
-        Outcome::Refused { number, .. } => {
-            return Err(Trouble(format!("the run is refused with {}", number)));
-        }
-    };
+    let ended = Machine::new()
+        .run(&source.bytes, &mut heap, entry)
+        .map_err(|refusal| Trouble(format!("the run is refused with {}", refusal.number())))?;
     let call = format!("{}({})", name, shown_arguments(&arguments));
     let end = told(&ended, &found, &outline, &heap);
     let used = format!(
@@ -130,7 +127,7 @@ fn dotted(name: Option<&[u8]>) -> String {
 }
 
 /// The end of a run in words.
-fn told(ended: &Ended, found: &Found<'_>, outline: &Outline<'_>, heap: &[u32]) -> String {
+fn told(ended: &Run, found: &Found<'_>, outline: &Outline<'_>, heap: &[u32]) -> String {
     match ended.end {
         End::Returned => told_value(ended.value, found.descriptor, outline, heap),
         End::Uncaught => format!(

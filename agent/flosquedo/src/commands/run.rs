@@ -1,9 +1,9 @@
 //! `run`: a run by indices, answered in numbers.
 
 use super::{argument_words, help, index_word, misuse, Reply, REFUSED};
-use crate::engine::{self, End, Ended, Engine, Entry, Outcome};
 use crate::source::{read_file, too_large, Trouble};
 use crate::LARGEST_HEAP;
+use flosquedo_proved::{End, Entry, Machine, Refusal, Run};
 use std::ffi::OsString;
 use std::path::Path;
 
@@ -40,9 +40,9 @@ fn run_words(
         arguments: &arguments,
         budget,
     };
-    let outcome = engine::chosen().run(&bundle, &mut heap, entry);
+    let outcome = Machine::new().run(&bundle, &mut heap, entry);
     let mut reply = Reply::output(line(&outcome, &heap));
-    if matches!(outcome, Outcome::Refused { .. }) {
+    if outcome.is_err() {
         reply.raise(REFUSED);
     }
     if let Some(trouble) = too_large(path, &bundle) {
@@ -51,19 +51,16 @@ fn run_words(
     Ok(reply)
 }
 
-fn line(outcome: &Outcome, heap: &[u32]) -> String {
+fn line(outcome: &Result<Run, Refusal>, heap: &[u32]) -> String {
     match outcome {
-        Outcome::Refused {
-            number: 21,
-            verdict: v,
-        } => {
+        Err(Refusal::Bundle(v)) => {
             format!(
                 "refused\t21\t{}\t{}\t{}\t{}\n",
                 v.number, v.class, v.method, v.place
             )
         }
-        Outcome::Refused { number, .. } => format!("refused\t{}\n", number),
-        Outcome::Ended(Ended {
+        Err(refusal) => format!("refused\t{}\n", refusal.number()),
+        Ok(Run {
             end,
             value,
             steps,

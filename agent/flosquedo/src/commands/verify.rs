@@ -1,8 +1,8 @@
 //! `verify`: verdicts as numbers.
 
 use super::{help, misuse, Reply, REFUSED};
-use crate::engine::{self, Engine};
 use crate::source::{read_file, too_large};
+use flosquedo_proved::Verifier;
 use std::ffi::OsString;
 use std::path::Path;
 
@@ -10,7 +10,7 @@ pub fn verify(words: &[OsString]) -> Reply {
     if words.is_empty() {
         return misuse("verify needs at least one file", help::VERIFY);
     }
-    let mut engine = engine::chosen();
+    let mut verifier = Verifier::new();
     let mut reply = Reply::default();
     for word in words {
         let path = Path::new(word);
@@ -21,7 +21,7 @@ pub fn verify(words: &[OsString]) -> Reply {
                 continue;
             }
         };
-        let v = engine.verify(&bytes);
+        let v = verifier.verify(&bytes);
         let file = word.to_string_lossy();
         let line = format!(
             "{}\t{}\t{}\t{}\t{}\n",

@@ -10,9 +10,9 @@ mod values;
 
 pub use linking::{is_known, BUILT_IN_CLASSES};
 
-use crate::engine::Verdict;
 use crate::outline::{self, Outline};
 use crate::source::Source;
+use flosquedo_proved::Verdict;
 
 /// What a particular bundle shows about a refusal, beyond what its number says.
 #[derive(Default)]

@@ -1,8 +1,8 @@
 //! Where a refusal points, in words.
 
 use super::{instruction, linking, Case};
-use crate::engine::UNNAMED;
 use crate::outline::{shown_text, Class, Code, Constant, Item, Owner, What};
+use flosquedo_proved::UNNAMED;
 
 pub fn describe(case: &Case<'_, '_>, in_table: bool) -> String {
     match case.verdict.number {

@@ -73,9 +73,9 @@ fn refused_instruction(code: &Code<'_>, place: usize) -> Option<Finding> {
 
 fn instruction_cause(opcode: u8) -> Option<&'static str> {
     match opcode {
-        0x13 => Some("a string, or more than about 250 large constants in one class"),
+        0x13 => Some("a string or a number whose entry in the pool is numbered above 255: a class with many names and large numbers; part it in two"),
         0x5b..=0x5e => {
-            Some("`a[i]++`, `a[i] += 1` or `x = y = z`; write `a[i] = a[i] + 1`, or two statements")
+            Some("`a[i]++`, `a[i] += 1` or `x = a[0] = n`; write `a[i] = a[i] + 1`, or two statements")
         }
         0x91..=0x93 | 0x33..=0x35 | 0x54..=0x56 => {
             Some("byte, char, short or boolean values; jobs count in int")

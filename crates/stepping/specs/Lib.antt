@@ -1,0 +1,9 @@
+pub mod Stepping
+pub mod Moves
+pub mod LeaveMoves
+pub mod CallMoves
+pub mod Turning
+pub mod Windowed
+pub mod Callable
+pub mod JumpSites
+pub mod Fetching
