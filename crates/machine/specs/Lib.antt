@@ -1,5 +1,6 @@
 pub mod CallableLaws
 pub mod Filling
 pub mod Turns
+pub mod Onward
 pub mod Outcomes
 pub mod Exports

@@ -5,12 +5,14 @@ ghost use lib.ListN.{length};
 ghost use Rattle.classfiles.specs.Limits.{maxHeap};
 ghost use Rattle.running.specs.Standing.{Standing};
 ghost use Rattle.running.specs.Dispatching.{Dispatch};
+ghost use Rattle.machine.specs.Onward.{Onward, Advances};
 ghost use Rattle.machine.specs.Turns.{closing, SiteOf, Turns, RunsOn};
 use plain::frames::Frame;
 use rules::site::Site;
 use running::landing;
 use stepping::moves::Moved;
 use stepping::step;
+use stretching::forward;
 
 // The number of the end, what is returned or the class that is not caught, the steps made, the cells used.
 pub struct Ran {
@@ -22,7 +24,7 @@ pub struct Ran {
 
 // What a step that does not go on comes to, after `count` others. One that is stopped is not counted.
 fn closed(r: Moved, count: u32) -> Ran
-    requires { ⌜ count + 1 < 2 ^ 32 ⌝ }
+    requires { ⌜ (r .end < 3 → count + 1 < 2 ^ 32) ⌝ }
     ensures { λ q. ⌜ q ≡ closing r count ⌝ }
 {
     if r.end < 3 {
@@ -72,6 +74,96 @@ fn turn(
     Turned { moved: m, site }
 }
 
+// Where a stretch has come to in the call that is running, and how many steps are left.
+pub struct Reached {
+    pub call: Frame,
+    pub used: u32,
+    pub left: u32,
+}
+
+// The call k at depth d, of the method at x, as far as its instructions stay in its window.
+fn onward(
+    b: &[u8],
+    t: &[u8],
+    cells: &mut [u32],
+    s: &mut [u32],
+    g: &mut [u8],
+    n: usize,
+    x: Site,
+    d: usize,
+    k: Frame,
+    used: u32,
+    left: u32,
+) -> Reached
+    requires { ⌜ Standing (now b) n (now t) (now s) (now g) d k × (length (now cells) ≤ maxHeap) × SiteOf (now b) n (now t) k x ⌝ }
+    ensures { λ r. ⌜ Onward (now (b .entry)) n (now (t .entry)) (now (s .entry)) (now (g .entry)) (now (cells .entry)) d k used left (now (s .exit)) (now (g .exit)) (now (cells .exit)) r ⌝ }
+{
+    let q = forward::forward(b, t, cells, s, g, x, d, k, used, left);
+    let call = Frame {
+        class: k.class,
+        method: k.method,
+        offset: q.at,
+        own: k.own,
+        operands: q.operands as u32,
+        locals: k.locals,
+    };
+    Reached {
+        call,
+        used: q.used,
+        left: q.left,
+    }
+}
+
+// What a stretch and the step behind it come to, with the steps that were left before that step; 3 is the end of a budget.
+pub struct Advanced {
+    pub moved: Moved,
+    pub site: Site,
+    pub left: u32,
+}
+
+// As far as instructions stay in the window, and one step more.
+fn advance(
+    b: &[u8],
+    t: &mut [u8],
+    cells: &mut [u32],
+    s: &mut [u32],
+    g: &mut [u8],
+    n: usize,
+    x: Site,
+    d: usize,
+    k: Frame,
+    used: u32,
+    left: u32,
+) -> Advanced
+    requires { ⌜ Standing (now b) n (now t) (now s) (now g) d k × Dispatch (now b) n (now t) × (length (now cells) ≤ maxHeap) × SiteOf (now b) n (now t) k x ⌝ }
+    ensures { λ r. ⌜ Advances (now (b .entry)) n (now (t .entry)) (now (s .entry)) (now (g .entry)) (now (cells .entry)) d k used left (now (t .exit)) (now (s .exit)) (now (g .exit)) (now (cells .exit)) r ⌝ }
+{
+    let p = onward(b, t, cells, s, g, n, x, d, k, used, left);
+    let here = p.call;
+    if p.left == 0 {
+        let moved = Moved {
+            end: 3,
+            value: 0,
+            depth: d,
+            call: here,
+            used: p.used,
+        };
+        return Advanced {
+            moved,
+            site: x,
+            left: 0,
+        };
+    }
+    let a = turn(b, t, cells, s, g, n, x, d, here, p.used);
+    let moved = a.moved;
+    let site = a.site;
+    Advanced {
+        moved,
+        site,
+        left: p.left,
+    }
+}
+
 // At most `budget` steps from the call k at depth d on, whose method stands at x.
 fn run_from(
     b: &[u8],
@@ -95,18 +187,18 @@ fn run_from(
     let mut used = from;
     let mut site = x;
     while 0 < left {
-        let a = turn(b, t, cells, s, g, n, site, depth, call, used);
+        let a = advance(b, t, cells, s, g, n, site, depth, call, used, left);
         let r = a.moved;
         let next = r.call;
         let there = a.site;
         if r.end != 0 {
-            return closed(r, budget - left);
+            return closed(r, budget - a.left);
         }
         site = there;
         depth = r.depth;
         call = next;
         used = r.used;
-        left -= 1;
+        left = a.left - 1;
     }
     Ran {
         end: 3,

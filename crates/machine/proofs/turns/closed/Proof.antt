@@ -4,7 +4,7 @@ use Rattle.machine.proofs.turns.closed.Statement.{statement}
 use Rattle.machine.proofs.turns.closed.Tie as tie
 
 add-t4 : tie.Need-add-t4
-add-t4 c = omega (arith, c .before .before .pre)
+add-t4 c = omega (arith, c .before .before .pre (c .if1 .taken))
 
 returns : tie.Need-returns
 returns c = closing-end (c .before .before .args .r) (c .before .before .args .count) (c .if1 .taken)

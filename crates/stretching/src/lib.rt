@@ -1,0 +1,4 @@
+// Stretches of instructions that stay in one window.
+pub mod forward;
+pub mod quick;
+pub mod stretch;
