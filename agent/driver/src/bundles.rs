@@ -200,7 +200,7 @@ fn chained(class: usize) -> String {
 }
 
 /// Classes of about so many bytes each, all in the pool: names, classes, pairs, references, numbers.
-pub fn pool_heavy(classes: usize, bytes: usize) -> Vec<u8> {
+pub fn pool_heavy(classes: usize, bytes: usize, methods: usize) -> Vec<u8> {
     let mut bundle = Vec::new();
     for class in 0..classes {
         let mut writer = Class::new();
@@ -212,7 +212,7 @@ pub fn pool_heavy(classes: usize, bytes: usize) -> Vec<u8> {
             let pair = writer.pair(12, name, descriptor);
             writer.pair(10, owner, pair);
             writer.entry(3, &[0, 0, 1, 2]);
-            if group < 4 {
+            if group < methods {
                 writer.method(name, descriptor);
             }
             group += 1;

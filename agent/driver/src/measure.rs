@@ -39,8 +39,8 @@ pub fn measure_reader() -> ExitCode {
     }
     let mut bench = Bench::new(Part::Reader);
     let prefixed = Naming::Prefixed(240);
-    bench.row("pool-heavy, 16 classes", &pool_heavy(16, 3_900));
-    bench.row("pool-heavy, 1 class", &pool_heavy(1, 2_060));
+    bench.row("pool-heavy, 16 classes", &pool_heavy(16, 3_900, 4));
+    bench.row("pool-heavy, 1 class", &pool_heavy(1, 2_060, 4));
     bench.row("the largest job", &largest_job());
     for (name, bundle) in [
         (
@@ -94,6 +94,18 @@ pub fn measure_verifier() -> ExitCode {
         bench.row(
             &format!("{} branches, {} frames", count, count),
             &branches(count),
+        );
+    }
+    for count in [1, 2, 4, 8, 16] {
+        bench.row(
+            &format!("{} classes with pools of 2,000 bytes", count),
+            &pool_heavy(count, 2_000, 0),
+        );
+    }
+    for size in [1_000, 2_000, 4_000, 6_000] {
+        bench.row(
+            &format!("1 class with a pool of {} bytes", size),
+            &pool_heavy(1, size, 0),
         );
     }
     for count in [1, 4] {
