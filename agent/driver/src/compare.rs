@@ -141,7 +141,7 @@ impl Tally {
         }
         for (class, method, parameters) in all {
             for budget in [40, 3_000] {
-                let arguments: Vec<u32> = (0..parameters).map(|_| argument(random)).collect();
+                let arguments: Vec<u32> = (0..parameters).map(|_| random.argument()).collect();
                 let entry = Entry {
                     class,
                     method,
@@ -294,15 +294,6 @@ fn numbers_of(outcome: &Outcome) -> [u32; 16] {
     let mut numbers = [0; 16];
     numbers[..9].copy_from_slice(&said);
     numbers
-}
-
-fn argument(random: &mut Random) -> u32 {
-    match random.below(5) {
-        0 => 0,
-        1 => random.number() as u32,
-        2 => (random.below(5) as u32).wrapping_neg(),
-        _ => random.below(12) as u32,
-    }
 }
 
 fn cells(random: &mut Random) -> usize {

@@ -34,6 +34,16 @@ impl Random {
         self.number() as u8
     }
 
+    /// An argument for a run: often small, sometimes any.
+    pub fn argument(&mut self) -> u32 {
+        match self.below(5) {
+            0 => 0,
+            1 => self.number() as u32,
+            2 => (self.below(5) as u32).wrapping_neg(),
+            _ => self.below(12) as u32,
+        }
+    }
+
     pub fn choose<'a, T>(&mut self, items: &'a [T]) -> Option<&'a T> {
         items.get(self.below(items.len()))
     }

@@ -44,7 +44,7 @@ fn check_mutant(bytes: &[u8], seed: u64) -> Verdict {
 /// One run on random arguments and a random heap, with what must hold of any run.
 fn check_run(bytes: &[u8], random: &mut Random, entry: (u32, u32, u32), budget: u32) -> Outcome {
     let (class, method, parameters) = entry;
-    let arguments: Vec<u32> = (0..parameters).map(|_| argument(random)).collect();
+    let arguments: Vec<u32> = (0..parameters).map(|_| random.argument()).collect();
     let cells = match random.below(4) {
         0 => random.below(40),
         1 => limits::HEAP_CELLS,
@@ -64,15 +64,6 @@ fn check_run(bytes: &[u8], random: &mut Random, entry: (u32, u32, u32), budget: 
         assert_eq!(stopped, (End::OutOfSteps as u32, 0, less));
     }
     outcome
-}
-
-fn argument(random: &mut Random) -> u32 {
-    match random.below(5) {
-        0 => 0,
-        1 => random.number() as u32,
-        2 => (random.below(5) as u32).wrapping_neg(),
-        _ => random.below(12) as u32,
-    }
 }
 
 #[test]
