@@ -16,7 +16,7 @@ use Rattle.rules.specs.declared.site.Site.{Site}
 use Rattle.shaping.specs.Located.{Located}
 use Rattle.shaping.specs.Phases.{programNow}
 use Rattle.plain.specs.Heap.{heap}
-use Rattle.plain.specs.Machine.{Machine, heapOf, End, returned, uncaught, heapFull, depthFull, stuck, Result, next, ended, stopped}
+use Rattle.plain.specs.Machine.{Machine, End, returned, uncaught, heapFull, depthFull, stuck, Result, next, ended, stopped}
 use Rattle.plain.specs.Step.{step}
 use Rattle.plain.specs.Run.{Ran, turn, run, endNumber, endValue}
 use Rattle.plain.specs.Windows.{endOf}
@@ -26,6 +26,7 @@ use Rattle.running.specs.Dispatching.{Dispatch}
 use Rattle.running.specs.Throws.{OfBundle, Shaped}
 use Rattle.stepping.specs.Stepping.{movedOf, Stepped}
 use Rattle.stepping.specs.declared.moves.Moved.{Moved}
+use Rattle.stretching.specs.Stretch.{run-turn}
 use Rattle.machine.specs.declared.turns.Turned.{Turned}
 use Rattle.machine.specs.declared.turns.Ran as code
 
@@ -81,13 +82,6 @@ pub going-start : (b : List ℕ) (n budget used : ℕ) (t s g cells : List ℕ) 
 going-start b n budget used t s g cells d k h y =
     let z : budget - budget ≡ 0 = omega arith in
     record { rest = rw z; stands = h; dispatch = y; most = omega arith }
-
-run-turn : (P : Program) (left m : ℕ) (K : Machine) → 0 < left → run P left m K ≡ turn (step P K) m (heapOf K) (λ (L : Machine). run P (left - 1) (suc m) L)
-unfolding run
-run-turn P zero m K h = absurd (omega arith)
-run-turn P (suc left) m K h =
-    let z : suc left - 1 ≡ left = omega arith in
-    rw z
 
 module _ (b : List ℕ) (n : ℕ) (R : Ran) (budget left used : ℕ) (t s g cells : List ℕ) (d : ℕ) (k : Frame) (h : Going b n R budget left used t s g cells d k) where
   module _ (l : 0 < left) (t′ s′ g′ cells′ : List ℕ) (r : Moved) (x : Stepped b n t s g cells d k used t′ s′ g′ cells′ r) where

@@ -75,7 +75,8 @@ stretch-start b t code y from w g cells h = record {
   room = h;
 }
 
-run-turn : (P : Program) (left m : ℕ) (K : Machine) → 0 < left → run P left m K ≡ turn (step P K) m (heapOf K) (λ (L : Machine). run P (left - 1) (suc m) L)
+-- a step of a run that has some left
+pub run-turn : (P : Program) (left m : ℕ) (K : Machine) → 0 < left → run P left m K ≡ turn (step P K) m (heapOf K) (λ (L : Machine). run P (left - 1) (suc m) L)
 unfolding run
 run-turn P zero m K h = absurd (omega arith)
 run-turn P (suc left) m K h =
