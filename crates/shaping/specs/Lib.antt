@@ -1,3 +1,4 @@
+pub mod Asks
 pub mod SiteLaws
 pub mod Resolving
 pub mod Located

@@ -1,17 +1,17 @@
 -- The resolved table as the code fills it: each word, and what it has to stand for. Assumes nothing.
 use Prim.Native.Nat.{ℕ, zero, suc, _+_, _-_, _*_, _/_, _%_, _^_, _<_, _≤_}
 use mathlib.Core.Path.{_≡_, refl, sym, ap, subst, _∙_}
-use mathlib.Core.List.{List, [], _∷_, map}
+use mathlib.Core.List.{List, [], _∷_, _++_, map}
 use mathlib.Core.Bool.{Bool, true, false, cond, not}
 use mathlib.Core.Logic.{_⊎_, inl, inr}
 use native.Mathlib.Omega.{arith}
 use lib.Dec.{ltb, eqb}
-use lib.ListN.{length, getD, take, drop, length-take, length-drop}
-use lib.Seq.{take-take, getD-drop, ext-getD}
+use lib.ListN.{length, getD, take, drop, replicate, length-take, length-drop, length-replicate}
+use lib.Seq.{take-take, take-append-le, length-take-le, getD-drop, ext-getD}
 use borrow.Author.Tests.{eqb-true, eq-eqb, ne-eqb, lt-ltb, le-ltb, not-true, not-false}
-use Rattle.kit.specs.Lists.{eqList, eqList-true, drop-take, length-part}
+use Rattle.kit.specs.Lists.{eqList, eqList-true, drop-take, length-part, length-back, getD-back-after}
 use Rattle.kit.specs.Pick.{side}
-use Rattle.kit.specs.Words.{word, putWord, length-put, byte-other, word-take, word-part, word-same, word-other}
+use Rattle.kit.specs.Words.{word, putWord, length-put, byte-other, word-take, word-part, word-same, word-other, word-zeros, word-back-in}
 use Rattle.texts.specs.Reading.{ok, u4At}
 use Rattle.texts.specs.Names.{Text, isInit}
 use Rattle.texts.specs.Answers.{resAs, no-ok, no-bad}
@@ -50,6 +50,12 @@ pub record Named (s : List ℕ) (P : Program) (x : Resolved) (w : ℕ) : Type 0 
 pub record ResolvedAll (s : List ℕ) (n : ℕ) (t : List ℕ) : Type 0 where
   pub at : (c i : ℕ) → c < n → words.resolvedIn s t c i ≡ resolve (programOf (filesIn s n t)) (class (programOf (filesIn s n t)) (firstClass + c) .pool) i
   pub flags : (c i : ℕ) → c < n → words.Flagged (programOf (filesIn s n t)) (words.wordOf t c i)
+
+-- written to the scratch u, and nothing else was
+pub record Entered (s : List ℕ) (n : ℕ) (t u : List ℕ) : Type 0 where
+  pub front : take 103040 u ≡ take 103040 t
+  pub back : drop 168576 u ≡ drop 168576 t
+  pub all : ResolvedAll s n u
 
 -- a type's code, where there is one
 unfoldable pub typeAs : Got → Resolved
@@ -499,16 +505,56 @@ past-word s P t c i w e g =
         let m : 6432 * c ≡ 4 * (1608 * c) = omega arith in
         ap (λ (k : ℕ). word (take 6432 (drop k t)) 1025) m ∙ word-part (1608 * c) 6432 t 1025 (omega arith)
 
--- the first k words are there
+-- the words of the n classes are clear, and all else is as it was
+pub record Blanked (n : ℕ) (t u : List ℕ) : Type 0 where
+  pub front : take 103040 u ≡ take 103040 t
+  pub back : drop 168576 u ≡ drop 168576 t
+  pub long : length u ≡ length t
+  pub at : (j : ℕ) → j < 1024 * n → word u (25760 + j) ≡ 0
+
+pub blank-still : (n : ℕ) (t u : List ℕ) → Blanked n t u → Blanked n u u
+blank-still n t u b = record { front = refl; back = refl; long = refl; at = b .at }
+
+-- the first k words are there, and the others are clear
 pub record Filled (s : List ℕ) (n k : ℕ) (t u : List ℕ) : Type 0 where
   pub front : take 103040 u ≡ take 103040 t
   pub back : drop 168576 u ≡ drop 168576 t
   pub long : length u ≡ length t
   pub at : (j : ℕ) → j < k → Named s (programOf (filesIn s n t)) (resolve (programOf (filesIn s n t)) (poolOf s (blockAt t (j / 1024))) (j % 1024)) (word u (25760 + j))
+  pub clear : (j : ℕ) → k ≤ j → j < 1024 * n → word u (25760 + j) ≡ 0
+
+-- what clearing them leaves
+module _ (t m : List ℕ) (n k : ℕ) (e : k ≡ 4096 * n) (h : n ≤ 16) (l : 168576 ≤ length t) (q : m ≡ replicate (length (take k (drop 103040 t))) 0) where
+  abbrev blanked : List ℕ
+  blanked = take 103040 t ++ (m ++ drop k (drop 103040 t))
+
+  wide : length m ≡ k
+  wide = ap length q ∙ length-replicate (length (take k (drop 103040 t))) 0 ∙ length-part 103040 k t (omega arith)
+
+  room : 103040 + k ≤ length t
+  room = omega arith
+
+  blank-long : length blanked ≡ length t
+  blank-long = length-back t m 103040 k wide room
+
+  blank-front : take 103040 blanked ≡ take 103040 t
+  blank-front =
+      take-append-le 103040 (take 103040 t) (m ++ drop k (drop 103040 t)) (rw (length-take-le 103040 t (omega arith)) (omega arith)) ∙ take-take 103040 103040 t (omega arith)
+
+  blank-back : drop 168576 blanked ≡ drop 168576 t
+  blank-back =
+      ext-getD 0 (drop 168576 blanked) (drop 168576 t) (length-drop 168576 blanked ∙ ap (λ (j : ℕ). j - 168576) blank-long ∙ sym (length-drop 168576 t))
+      (λ i b. getD-drop 168576 blanked i 0 ∙ getD-back-after t m 103040 k wide room (168576 + i) 0 (omega arith) ∙ sym (getD-drop 168576 t i 0))
+
+  blank-at : (j : ℕ) → j < 1024 * n → word blanked (25760 + j) ≡ 0
+  blank-at j b = word-back-in t m 25760 k wide room j (omega arith) ∙ ap (λ (z : List ℕ). word z j) q ∙ word-zeros (length (take k (drop 103040 t))) j
+
+  pub blank-is : Blanked n t blanked
+  blank-is = record { front = blank-front; back = blank-back; long = blank-long; at = blank-at }
 
 module _ (s : List ℕ) (n : ℕ) (t : List ℕ) (m : n ≤ 16) where
-  pub filled-none : Filled s n 0 t t
-  filled-none = record { front = refl; back = refl; long = refl; at = λ j h. absurd (omega arith) }
+  pub filled-none : Blanked n t t → Filled s n 0 t t
+  filled-none b = record { front = refl; back = refl; long = refl; at = λ j h. absurd (omega arith); clear = λ j h l. b .at j l }
 
   module _ (k : ℕ) (u : List ℕ) (h : Filled s n k t u) where
     pub filled-more : (v : List ℕ) (w : ℕ) → k < 1024 * n → 168576 ≤ length t → w < 2 ^ 32
@@ -518,6 +564,7 @@ module _ (s : List ℕ) (n : ℕ) (t : List ℕ) (m : n ≤ 16) where
       back = ap (drop 168576) e ∙ drop-put 42144 u (25760 + k) w (omega arith) ∙ h .back;
       long = ap length e ∙ length-put u (25760 + k) w ∙ h .long;
       at = λ j g. go j g (side j k);
+      clear = λ j g i. ap (λ (x : List ℕ). word x (25760 + j)) e ∙ word-other u (25760 + k) w (25760 + j) (λ y. omega arith) ∙ h .clear j (omega arith) i;
     }
       where
         fs : filesIn s n u ≡ filesIn s n t
@@ -536,6 +583,23 @@ module _ (s : List ℕ) (n : ℕ) (t : List ℕ) (m : n ≤ 16) where
             let z : word v (25760 + k) ≡ w = ap (λ (l : List ℕ). word l (25760 + k)) e ∙ word-same u (25760 + k) w (omega (arith, h .long)) b in
             subst (λ (i : ℕ). Named s (programOf (filesIn s n t)) (resolve (programOf (filesIn s n t)) (poolOf s (blockAt t (i / 1024))) (i % 1024)) (word v (25760 + i))) y
             (subst (Named s (programOf (filesIn s n t)) (resolve (programOf (filesIn s n t)) (poolOf s (blockAt t (k / 1024))) (k % 1024))) (sym z) moved)
+
+    -- the rest of class k / 1024 is past its pool
+    pub filled-past : (w : ℕ) → k < 1024 * n → w ≡ word u (1608 * (k / 1024) + 1025) → w ≤ k % 1024 → Filled s n (1024 * (k / 1024) + 1024) t u
+    filled-past w l e g =
+        record { front = h .front; back = h .back; long = h .long; at = λ j b. go j b (side j k); clear = λ j a b. h .clear j (omega arith) b }
+      where
+        same-word : word u (1608 * (k / 1024) + 1025) ≡ word t (1608 * (k / 1024) + 1025)
+        same-word = word-below s n t u m (h .front) (1608 * (k / 1024) + 1025) (omega arith)
+
+        go : (j : ℕ) → j < 1024 * (k / 1024) + 1024 → (j < k) ⊎ (k ≤ j) → Named s (programOf (filesIn s n t)) (resolve (programOf (filesIn s n t)) (poolOf s (blockAt t (j / 1024))) (j % 1024)) (word u (25760 + j))
+        go j b (inl x) = h .at j x
+        go j b (inr x) =
+            let c : k / 1024 ≡ j / 1024 = omega arith in
+            let i : k % 1024 ≤ j % 1024 = omega (arith, c) in
+            let z : w ≡ word t (1608 * (j / 1024) + 1025) = e ∙ same-word ∙ ap (λ (d : ℕ). word t (1608 * d + 1025)) c in
+            subst (Named s (programOf (filesIn s n t)) (resolve (programOf (filesIn s n t)) (poolOf s (blockAt t (j / 1024))) (j % 1024))) (sym (h .clear j x (omega arith)))
+            (past-word s (programOf (filesIn s n t)) t (j / 1024) (j % 1024) w z (omega (arith, i, g)))
 
     -- past the pool there is nothing
     past-none : Limited n t → (c i : ℕ) → c < n → 1024 ≤ i → nothing ≡ resolve (programOf (filesIn s n t)) (poolOf s (blockAt t c)) i

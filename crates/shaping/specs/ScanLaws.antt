@@ -1,29 +1,25 @@
 -- Laws of the scan that marks a method's instructions: its turns and its ends. Assumes nothing.
 use Prim.Native.Nat.{ℕ, _+_, _-_, _<_, _≤_}
 use mathlib.Core.Path.{_≡_, refl, sym, ap, subst, _∙_}
-use mathlib.Core.Bool.{Bool, true, false, cond, not}
 use mathlib.Core.List.{List, []}
 use native.Mathlib.Omega.{arith}
 use lib.ListN.{length, set, take, drop, length-set}
-use borrow.Author.Tests.{not-true, not-false}
 use Rattle.kit.specs.Lists.{length-part}
 use Rattle.kit.specs.Claims.{Ruling, pass, fail, verdict, verdict-none}
 use Rattle.texts.specs.Reading.{part}
 use Rattle.classfiles.specs.Members.{Body}
 use Rattle.reader.specs.Verdicts.{Fault, fault}
 use Rattle.reader.specs.Program.{Program, Method}
-use Rattle.rules.specs.Instruction.{Instr, isNew, formOk}
+use Rattle.rules.specs.Instruction.{Instr}
 use Rattle.rules.specs.Opcodes.{body, codeOf, instruction, sizeAt}
-use Rattle.rules.specs.InstructionWords.{instrOf}
 use Rattle.rules.specs.Lines.{Line, lines}
 use Rattle.rules.specs.Shape.{formClaims}
-use Rattle.rules.specs.Decoding.{DecodedAt}
 use Rattle.rules.specs.Sites.{front, siteCode, siteBody, Sited, Bounded, programAt, methodAt, Here}
-use Rattle.shaping.specs.SiteLaws.{one-body, code-is, site-instruction}
+use Rattle.shaping.specs.Asks.{Says, markBy, mark-zero, mark-some}
+use Rattle.shaping.specs.SiteLaws.{one-body, code-is, site-says}
 use Rattle.shaping.specs.Marks.{ruledAs, markAt, linesAt, Cleared, Marked, Scanned, Ready}
 use Rattle.shaping.specs.LineLaws.{rest, rest-all, rest-end, form-unlisted, form-cut, form-bad, form-good}
 use Rattle.shaping.specs.MarkLaws.{marked-front, Marking, marking-start, marking-turn, marking-end}
-use Rattle.rules.specs.declared.instruction.Instr as code
 use Rattle.rules.specs.declared.site.Site.{Site}
 use Rattle.rules.specs.declared.site.Ruled.{Ruled}
 
@@ -91,12 +87,12 @@ module _ (s t : List ℕ) (x : Site) (h : Here s t x) (one : x .codes ≡ 1) whe
         long = z .long;
       }
 
-  module _ (u : List ℕ) (o n : ℕ) (r : code.Instr) (z : Scanning s t x u o) (l : o < length (siteCode s x)) (en : n ≡ sizeAt (siteCode s x) o) (d : DecodedAt s u (x .class) (siteCode s x) o r) where
+  module _ (u : List ℕ) (o n : ℕ) (z : Scanning s t x u o) (l : o < length (siteCode s x)) (en : n ≡ sizeAt (siteCode s x) o) where
+    abbrev I : Instr
+    I = instruction P M o
+
     size-here : n ≡ sizeAt (codeOf M) o
     size-here = en ∙ ap (λ (c : List ℕ). sizeAt c o) (sym code-here)
-
-    instr-here : instrOf r ≡ instruction P M o
-    instr-here = site-instruction s t u x h one (z .front) o r d
 
     inside : o < length (codeOf M)
     inside = omega (arith, long-here)
@@ -105,30 +101,31 @@ module _ (s t : List ℕ) (x : Site) (h : Here s t x) (one : x .codes ≡ 1) whe
     stopped e = record { is = e; marks = λ y. absurd (omega arith); front = z .front; long = z .long }
 
     pub scan-unlisted : n ≡ 0 → Scanned s t x (record { number = 11; place = o }) u
-    scan-unlisted e = stopped (form-unlisted P M o n (instrOf r) _ (z .claims) inside size-here instr-here e)
+    scan-unlisted e = stopped (form-unlisted P M o n I _ (z .claims) inside size-here refl e)
 
     module _ (y : n ≡ 0 → ⊥) where
       pub scan-cut : length (siteCode s x) - o < n → Scanned s t x (record { number = 11; place = o }) u
-      scan-cut e = stopped (form-cut P M o n (instrOf r) _ (z .claims) inside size-here instr-here y (omega (arith, long-here)))
+      scan-cut e = stopped (form-cut P M o n I _ (z .claims) inside size-here refl y (omega (arith, long-here)))
 
-      module _ (k : n ≤ length (siteCode s x) - o) (b : Bool) (eb : b ≡ formOk (x .locals) (instrOf r)) where
+      module _ (k : n ≤ length (siteCode s x) - o) (v : ℕ) (d : Says (markBy (x .locals)) s u (x .class) (siteCode s x) o v) where
         fits : n ≤ length (codeOf M) - o
         fits = omega (arith, long-here)
 
-        formed : b ≡ formOk (body M .maxLocals) (instrOf r)
-        formed = eb ∙ ap (λ (j : ℕ). formOk j (instrOf r)) (sym locals-here)
+        marked-here : v ≡ markBy (body M .maxLocals) I
+        marked-here = site-says (markBy (x .locals)) s t u x h one (z .front) o v d ∙ ap (λ (j : ℕ). markBy j I) (sym locals-here)
 
-        pub scan-bad : not b ≡ true → Scanned s t x (record { number = 11; place = o }) u
-        scan-bad e =
-            stopped (form-bad P M o n (instrOf r) _ (z .claims) inside size-here instr-here y fits (sym formed ∙ not-true b e))
+        pub scan-bad : v ≡ 0 → Scanned s t x (record { number = 11; place = o }) u
+        scan-bad e = stopped (form-bad P M o n I _ (z .claims) inside size-here refl y fits (mark-zero (body M .maxLocals) I v marked-here e))
 
-        pub scan-turn : (v : ℕ) → not b ≡ false → v ≡ cond (isNew (instrOf r)) 2 1 → 256640 + o < length u → Scanning s t x (set u (256640 + o) v) (o + n)
-        scan-turn v e ev g = record {
-          claims = form-good P M o n (instrOf r) _ (z .claims) inside size-here instr-here y fits (sym formed ∙ not-false b e);
-          marking = marking-turn P M u o n v (instrOf r) inside size-here y instr-here ev g (z .marking);
-          front = marked-front u o v ∙ z .front;
-          long = length-set u (256640 + o) v ∙ z .long;
-        }
+        pub scan-turn : (v ≡ 0 → ⊥) → 256640 + o < length u → Scanning s t x (set u (256640 + o) v) (o + n)
+        scan-turn e g =
+            let m = mark-some (body M .maxLocals) I v marked-here e in
+            record {
+              claims = form-good P M o n I _ (z .claims) inside size-here refl y fits (m .0);
+              marking = marking-turn P M u o n v I inside size-here y refl (m .1) g (z .marking);
+              front = marked-front u o v ∙ z .front;
+              long = length-set u (256640 + o) v ∙ z .long;
+            }
 
 -- cleared first
 pub mark-after : (s t m u : List ℕ) (x : Site) (r : Ruled) → Cleared (x .end - x .start) t m → Scanned s m x r u → Scanned s t x r u

@@ -19,18 +19,16 @@ use Rattle.classfiles.specs.Attributes.{handlersFrom}
 use Rattle.reader.specs.Program.{Program, Method, class, classCount, below}
 use Rattle.rules.specs.Instruction.{Instr, targets, resolved}
 use Rattle.rules.specs.Opcodes.{body, codeOf, instruction, sizeAt}
-use Rattle.rules.specs.InstructionWords.{instrOf}
 use Rattle.rules.specs.Lines.{Line, line, lines, isStart}
 use Rattle.rules.specs.Shape.{allStarts, reachClaims, referenceClaims, rangeOk, catchClass, catchOk, tableClaims}
-use Rattle.rules.specs.Decoding.{DecodedAt}
 use Rattle.rules.specs.Ancestry.{lineage, Parents, below-lineage}
 use Rattle.rules.specs.Sites.{front, siteCode, Sited, Bounded, programAt, methodAt, Here}
-use Rattle.shaping.specs.SiteLaws.{word-front, site-instruction}
+use Rattle.shaping.specs.Asks.{Says, referBy}
+use Rattle.shaping.specs.SiteLaws.{word-front, site-says}
 use Rattle.shaping.specs.Marks.{ruledAs, linesAt, Ready}
 use Rattle.shaping.specs.LineLaws.{rest, rest-all, rest-end, rest-last, rest-more}
 use Rattle.shaping.specs.ScanLaws.{code-here, code-length}
 use Rattle.rules.specs.Handlers.{entryAt, catchIn, catch-is}
-use Rattle.rules.specs.declared.instruction.Instr as code
 use Rattle.rules.specs.declared.site.Site.{Site}
 use Rattle.rules.specs.declared.site.Ruled.{Ruled}
 
@@ -110,29 +108,43 @@ module _ (s t : List ℕ) (x : Site) (y : Ready s t x) where
   pub refer-done : (o : ℕ) → length (siteCode s x) ≤ o → Referring s t x o → pass ≡ verdict (referenceClaims all all)
   refer-done o l z = refer-end P M all o _ (z .claims) (omega (arith, long-site))
 
-  module _ (o n : ℕ) (r : code.Instr) (z : Referring s t x o) (l : o < length (siteCode s x)) (en : n ≡ sizeAt (siteCode s x) o) (d : DecodedAt s t (x .class) (siteCode s x) o r) (a : Bool) (ea : a ≡ allStarts all (targets (instrOf r))) where
+  module _ (o n : ℕ) (z : Referring s t x o) (l : o < length (siteCode s x)) (en : n ≡ sizeAt (siteCode s x) o) (v : ℕ) (d : Says (referBy all) s t (x .class) (siteCode s x) o v) where
+    abbrev I : Instr
+    I = instruction P M o
+
     size-site : n ≡ sizeAt (codeOf M) o
     size-site = en ∙ ap (λ (c : List ℕ). sizeAt c o) (sym code-site)
 
-    instr-site : instrOf r ≡ instruction P M o
-    instr-site = site-instruction s t t x (y .here) (y .one) refl o r d
+    refers : v ≡ referBy all I
+    refers = site-says (referBy all) s t t x (y .here) (y .one) refl o v d
 
     inside : o < length (codeOf M)
     inside = omega (arith, long-site)
 
-    pub refer-12 : not a ≡ true → fail (fault 12 o) ≡ verdict (referenceClaims all all)
-    refer-12 e = reach-no P M all o n (instrOf r) _ (z .claims) inside size-site instr-site a ea e
+    pub refer-no : (v ≡ 0 → ⊥) → ruledAs (record { number = v; place = o }) ≡ verdict (referenceClaims all all)
+    unfolding referBy
+    refer-no e = rw (ne-eqb v 0 e) (go (allStarts all (targets I)) refl (resolved I) refl refers)
+      where
+        go : (a : Bool) → a ≡ allStarts all (targets I) → (b : Bool) → b ≡ resolved I → v ≡ cond a (cond b 0 13) 12 → fail (fault v o) ≡ verdict (referenceClaims all all)
+        go false ea b eb q = ap (λ (k : ℕ). fail (fault k o)) q ∙ reach-no P M all o n I _ (z .claims) inside size-site refl false ea refl
+        go true ea true eb q = absurd (e q)
+        go true ea false eb q = ap (λ (k : ℕ). fail (fault k o)) q ∙ name-no P M all o n I _ (z .claims) inside size-site refl true ea refl false eb refl
 
-    module _ (ya : not a ≡ false) (b : Bool) (eb : b ≡ resolved (instrOf r)) where
-      pub refer-13 : not b ≡ true → fail (fault 13 o) ≡ verdict (referenceClaims all all)
-      refer-13 e = name-no P M all o n (instrOf r) _ (z .claims) inside size-site instr-site a ea ya b eb e
+    module _ (e : v ≡ 0) where
+      refer-both : (allStarts all (targets I) ≡ true) × (resolved I ≡ true)
+      unfolding referBy
+      refer-both = go (allStarts all (targets I)) refl (resolved I) refl (sym e ∙ refers)
+        where
+          go : (a : Bool) → allStarts all (targets I) ≡ a → (b : Bool) → resolved I ≡ b → _≡_ {A = ℕ} 0 (cond a (cond b 0 13) 12) → (allStarts all (targets I) ≡ true) × (resolved I ≡ true)
+          go false ea b eb q = absurd (omega arith)
+          go true ea true eb q = (ea, eb)
+          go true ea false eb q = absurd (omega arith)
 
-      module _ (yb : not b ≡ false) where
-        pub refer-stop : n ≡ 0 → pass ≡ verdict (referenceClaims all all)
-        refer-stop e = refer-last P M all o n (instrOf r) _ (z .claims) inside size-site instr-site a ea ya b eb yb e
+      pub refer-stop : n ≡ 0 → pass ≡ verdict (referenceClaims all all)
+      refer-stop k = refer-last P M all o n I _ (z .claims) inside size-site refl true (sym (refer-both .0)) refl true (sym (refer-both .1)) refl k
 
-        pub refer-turn : (n ≡ 0 → ⊥) → Referring s t x (o + n)
-        refer-turn e = record { claims = refer-next P M all o n (instrOf r) _ (z .claims) inside size-site instr-site a ea ya b eb yb e }
+      pub refer-turn : (n ≡ 0 → ⊥) → Referring s t x (o + n)
+      refer-turn k = record { claims = refer-next P M all o n I _ (z .claims) inside size-site refl true (sym (refer-both .0)) refl true (sym (refer-both .1)) refl k }
 
   -- ---- a handler's range, by what was read
   pub range-is : (q : ℕ) → rangeOk M all (entryAt s q)

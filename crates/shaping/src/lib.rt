@@ -1,4 +1,5 @@
 // Phase C, and what later phases find in the scratch. The definitions are in specs/.
+pub mod asks;
 pub mod locate;
 pub mod marks;
 pub mod phases;

@@ -1,13 +1,15 @@
 // Where a method's instructions start, a byte an offset: 0 none does, 1 one does, 2 a `new` does. And 11.
 ghost use mathlib.Core.Path.{_≡_};
 ghost use mathlib.Core.Bool.{cond};
-ghost use Prim.Native.Nat.{_-_, _≤_};
+ghost use Prim.Native.Nat.{_-_, _<_, _≤_};
 ghost use lib.ListN.{length};
 ghost use Rattle.rules.specs.Instruction.{formOk, isNew};
 ghost use Rattle.rules.specs.InstructionWords.{localOf, instrOf};
 ghost use Rattle.rules.specs.Lines.{isStart, isNewAt};
 ghost use Rattle.rules.specs.Sites.{Here};
+ghost use Rattle.shaping.specs.Asks.{Says, markBy};
 ghost use Rattle.shaping.specs.Marks.{linesAt, Ready, Cleared, Scanned};
+use crate::asks;
 use rules::decode;
 use rules::instruction::Instr;
 use rules::instruction::Local;
@@ -68,6 +70,33 @@ fn clear_marks(t: &mut [u8], n: usize)
     kit::clear(&mut t[256640..256640 + n]);
 }
 
+// The mark of the instruction at o, 0 where its form is wrong; n locals.
+fn decoded_mark(s: &[u8], t: &[u8], c: usize, code: &[u8], o: usize, n: usize) -> u8
+    ensures { λ r. ⌜ Says (markBy n) (now (s .entry)) (now (t .entry)) c (now (code .entry)) o r ⌝ }
+{
+    let i = decode::instruction(s, t, c, code, o);
+    if form_ok(i, n) {
+        return mark_of(i);
+    }
+    0
+}
+
+// The same, by its opcode where that tells.
+fn mark_at(s: &[u8], t: &[u8], c: usize, code: &[u8], o: usize, n: usize) -> u8
+    requires { ⌜ o < length (now code) ⌝ }
+    ensures { λ r. ⌜ Says (markBy n) (now (s .entry)) (now (t .entry)) c (now (code .entry)) o r ⌝ }
+{
+    let op = kit::byte(code, o);
+    let k = asks::kind(op);
+    if 4 < k {
+        return decoded_mark(s, t, c, code, o, n);
+    }
+    if asks::form_by(k, op, kit::byte(code, o + 1), n) {
+        return 1;
+    }
+    0
+}
+
 // The instructions in order; the marks are clear before.
 fn scan(s: &[u8], t: &mut [u8], x: Site) -> Ruled
     requires { ⌜ Here (now s) (now t) x × (x .codes ≡ 1) × (262144 ≤ length (now t)) × Cleared (x .end - x .start) (now t) (now t) ⌝ }
@@ -79,7 +108,6 @@ fn scan(s: &[u8], t: &mut [u8], x: Site) -> Ruled
     let mut o = 0;
     while o < code.len() {
         let n = opcodes::size_at(code, o);
-        let i = decode::instruction(s, t, x.class, code, o);
         if n == 0 {
             return Ruled {
                 number: 11,
@@ -92,13 +120,14 @@ fn scan(s: &[u8], t: &mut [u8], x: Site) -> Ruled
                 place: o,
             };
         }
-        if !form_ok(i, x.locals) {
+        let m = mark_at(s, t, x.class, code, o, x.locals);
+        if m == 0 {
             return Ruled {
                 number: 11,
                 place: o,
             };
         }
-        t[256640 + o] = mark_of(i);
+        t[256640 + o] = m;
         o += n;
     }
     Ruled {

@@ -10,6 +10,7 @@ use texts::names;
 ghost use mathlib.Core.Path.{_≡_};
 ghost use mathlib.Core.Bool.{true, false};
 ghost use Prim.Native.Nat.{ℕ, _+_, _-_, _*_, _/_, _%_, _<_, _≤_};
+ghost use mathlib.Core.List.{List};
 ghost use lib.ListN.{length, take, drop};
 ghost use Rattle.classfiles.specs.Pool.{classAt, entry};
 ghost use Rattle.reader.specs.Program.{signature, method, programOf, isConstructor};
@@ -22,7 +23,7 @@ ghost use Rattle.reader.specs.Access.{Limited};
 ghost use Rattle.reader.specs.Whole.{Tables};
 ghost use Rattle.rules.specs.Resolve.{Resolved, withClass, classEntry, withSignature, methodFound, fieldIn, methodIn, resolve};
 ghost use Rattle.shaping.specs.Located.{Prepared};
-ghost use Rattle.shaping.specs.Resolving.{typeAs, numbered, memberIn, typeWord, fieldWord, methodWord, flagOf, Named, ResolvedAll};
+ghost use Rattle.shaping.specs.Resolving.{typeAs, numbered, memberIn, typeWord, fieldWord, methodWord, flagOf, Named, Blanked, Filled, Entered};
 
 // The type that the Class of name i in class c's pool names: its code, where it is known.
 fn class_code(s: &[u8], t: &[u8], n: usize, c: usize, i: usize) -> Got
@@ -226,29 +227,38 @@ fn entry_word(s: &[u8], t: &[u8], n: usize, c: usize, i: usize) -> u32
     }
 }
 
-// The same; past the end of the pool nothing, without taking an entry apart.
-fn word_for(s: &[u8], t: &[u8], n: usize, c: usize, i: usize) -> u32
-    requires { ⌜ (length (now s) ≤ 65536) × (n ≤ 16) × (c < n) × (i < 1024) × (parentsEnd ≤ length (now t)) × Parents (now s) n (now t) × Limited n (now t) × Printed (now s) n (now t) ⌝ }
-    ensures { λ r. ⌜ Named (now (s .entry)) (programOf (filesIn (now (s .entry)) n (now (t .entry)))) (resolve (programOf (filesIn (now (s .entry)) n (now (t .entry)))) (poolOf (now (s .entry)) (blockAt (now (t .entry)) c)) i) r ⌝ }
+// The word of entry k % 1024 of class k / 1024, and the entry that comes next: past the end of a pool the words stay clear.
+fn filled(s: &[u8], t: &mut [u8], n: usize, k: usize) -> usize
+    requires { ⌜ (length (now s) ≤ 65536) × (n ≤ 16) × (k < 1024 * n) × (168576 ≤ length (now t)) × Parents (now s) n (now t) × Limited n (now t) × Printed (now s) n (now t) ⌝ }
+    ensures { λ r. ⌜ (k < r) × (r ≤ 1024 * n) × ((u : List ℕ) → Filled (now (s .entry)) n k u (now (t .entry)) → Filled (now (s .entry)) n r u (now (t .exit))) ⌝ }
 {
+    let c = k / 1024;
+    let i = k % 1024;
     if kit::word(t, 1608 * c + 1025) as usize <= i {
-        return 0;
+        return 1024 * c + 1024;
     }
-    entry_word(s, t, n, c, i)
+    let w = entry_word(s, t, n, c, i);
+    kit::put_word(t, 25760 + k, w);
+    k + 1
 }
 
-// The words of all entries of the n classes.
+// The words of all entries of the n classes; they are clear before.
 fn entries(s: &[u8], t: &mut [u8], n: usize)
-    requires { ⌜ (length (now s) ≤ 65536) × (n ≤ 16) × (168576 ≤ length (now t)) × Parents (now s) n (now t) × Limited n (now t) × Printed (now s) n (now t) ⌝ }
-    ensures { λ _. ⌜ (take 103040 (now (t .exit)) ≡ take 103040 (now (t .entry))) × (drop 168576 (now (t .exit)) ≡ drop 168576 (now (t .entry))) × ResolvedAll (now (s .entry)) n (now (t .exit)) ⌝ }
+    requires { ⌜ (length (now s) ≤ 65536) × (n ≤ 16) × (168576 ≤ length (now t)) × Parents (now s) n (now t) × Limited n (now t) × Printed (now s) n (now t) × Blanked n (now t) (now t) ⌝ }
+    ensures { λ _. ⌜ Entered (now (s .entry)) n (now (t .entry)) (now (t .exit)) ⌝ }
 {
     let e = 1024 * n;
     let mut k = 0;
     while k < e {
-        let w = word_for(s, t, n, k / 1024, k % 1024);
-        kit::put_word(t, 25760 + k, w);
-        k += 1;
+        k = filled(s, t, n, k);
     }
+}
+
+fn clear_words(t: &mut [u8], n: usize)
+    requires { ⌜ (n ≤ 16) × (168576 ≤ length (now t)) ⌝ }
+    ensures { λ _. ⌜ Blanked n (now (t .entry)) (now (t .exit)) ⌝ }
+{
+    kit::clear(&mut t[103040..103040 + 4096 * n]);
 }
 
 // After phases A and B: all that later phases ask of the scratch stands in it.
@@ -256,5 +266,6 @@ pub fn prepare(s: &[u8], t: &mut [u8], n: usize)
     requires { ⌜ (168576 ≤ length (now t)) × Tables (now s) n (now t) × Printed (now s) n (now t) ⌝ }
     ensures { λ _. ⌜ (take 103040 (now (t .exit)) ≡ take 103040 (now (t .entry))) × (drop 168576 (now (t .exit)) ≡ drop 168576 (now (t .entry))) × Prepared (now (s .entry)) n (now (t .exit)) ⌝ }
 {
+    clear_words(t, n);
     entries(s, t, n);
 }

@@ -1,8 +1,8 @@
 // Phase C of one method: 10, all 11, then 12 and 13 in order, then the exception table.
 ghost use mathlib.Core.Path.{_≡_};
-ghost use Prim.Native.Nat.{_+_, _*_, _^_, _<_, _≤_};
+ghost use Prim.Native.Nat.{_+_, _*_, _^_, _%_, _<_, _≤_};
 ghost use mathlib.Core.Bool.{cond};
-ghost use lib.ListN.{length};
+ghost use lib.ListN.{length, getD};
 ghost use Rattle.reader.specs.TypeCodes.{paramsIn};
 ghost use Rattle.kit.specs.Claims.{verdict};
 ghost use Rattle.reader.specs.BuiltIns.{firstClass};
@@ -10,12 +10,15 @@ ghost use Rattle.rules.specs.Instruction.{targets, resolved};
 ghost use Rattle.rules.specs.InstructionWords.{branchOf, instrOf};
 ghost use Rattle.rules.specs.Shape.{allStarts, referenceClaims, rangeOk, catchOk, tableClaims};
 ghost use Rattle.rules.specs.Sites.{front, programAt, methodAt, Here};
+ghost use Rattle.shaping.specs.Asks.{Says, referBy};
 ghost use Rattle.shaping.specs.Marks.{ruledAs, linesAt, Ready};
 ghost use Rattle.shaping.specs.Shaping.{tableOf, Begun, endClaims, Shaped};
 ghost use Rattle.rules.specs.Handlers.{entryAt, catchIn};
+use crate::asks;
 use crate::marks;
 use reader::types as methods;
 use rules::decode;
+use rules::decode::Bytes;
 use rules::instruction::Branch;
 use rules::instruction::Instr;
 use rules::opcodes;
@@ -73,6 +76,56 @@ fn is_resolved(i: Instr) -> bool
     }
 }
 
+// 12 or 13 where the instruction at o has it, 12 before 13, or 0.
+fn decoded_fault(s: &[u8], t: &[u8], x: Site, code: &[u8], o: usize) -> u32
+    requires { ⌜ Ready (now s) (now t) x ⌝ }
+    ensures { λ r. ⌜ Says (referBy (linesAt (now (s .entry)) (now (t .entry)) x)) (now (s .entry)) (now (t .entry)) (x .class) (now (code .entry)) o r ⌝ }
+{
+    let i = decode::instruction(s, t, x.class, code, o);
+    if !leads(s, t, x, i) {
+        return 12;
+    }
+    if is_resolved(i) {
+        return 0;
+    }
+    13
+}
+
+// Where the branch at o leads.
+fn target_at(code: &[u8], o: usize) -> u16
+    requires { ⌜ o < length (now code) ⌝ }
+    ensures { λ r. ⌜ r ≡ (o + (getD (now (code .entry)) (o + 1) 0 * 256 + getD (now (code .entry)) (o + 2) 0)) % 2 ^ 16 ⌝ }
+{
+    let first = kit::byte(code, o + 1) as u8;
+    let second = kit::byte(code, o + 2) as u8;
+    decode::target(Bytes {
+        op: 0,
+        first: first,
+        second: second,
+        at: o,
+    })
+}
+
+// The same as decoded_fault, by the opcode where that tells.
+fn fault_at(s: &[u8], t: &[u8], x: Site, code: &[u8], o: usize) -> u32
+    requires { ⌜ Ready (now s) (now t) x × (o < length (now code)) ⌝ }
+    ensures { λ r. ⌜ Says (referBy (linesAt (now (s .entry)) (now (t .entry)) x)) (now (s .entry)) (now (t .entry)) (x .class) (now (code .entry)) o r ⌝ }
+{
+    let op = kit::byte(code, o);
+    let k = asks::kind(op);
+    if k < 3 {
+        return 0;
+    }
+    if k == 3 {
+        let l = target_at(code, o);
+        if marks::is_start(s, t, x, l as usize) {
+            return 0;
+        }
+        return 12;
+    }
+    decoded_fault(s, t, x, code, o)
+}
+
 // 12 and 13 of the instructions in order.
 fn references(s: &[u8], t: &[u8], x: Site) -> Ruled
     requires { ⌜ Ready (now s) (now t) x ⌝ }
@@ -84,16 +137,10 @@ fn references(s: &[u8], t: &[u8], x: Site) -> Ruled
     let mut o = 0;
     while o < code.len() {
         let n = opcodes::size_at(code, o);
-        let i = decode::instruction(s, t, x.class, code, o);
-        if !leads(s, t, x, i) {
+        let r = fault_at(s, t, x, code, o);
+        if r != 0 {
             return Ruled {
-                number: 12,
-                place: o,
-            };
-        }
-        if !is_resolved(i) {
-            return Ruled {
-                number: 13,
+                number: r,
                 place: o,
             };
         }
