@@ -42,7 +42,6 @@ pub record Sited (s t : List ℕ) (P : Program) (M : Method) (x : Site) : Type 0
   pub params : M .params ≡ paramsIn t (64 * x .class + x .method)
   pub results : M .results ≡ resultsIn t (64 * x .class + x .method)
   pub parents : Parents P t 25728 (firstClass + x .classes)
-  pub constructor : isConstructor M ≡ x .constructor
   pub static : M .static ≡ x .fixed
   pub body : M .body ≡ foundOf (x .codes) (siteBody s x)
 
@@ -67,6 +66,10 @@ programAt s t x = programOf (filesIn s (x .classes) t)
 
 abbrev pub methodAt : List ℕ → List ℕ → Site → Method
 methodAt s t x = method (programAt s t x) (firstClass + x .class) (x .method)
+
+-- the site says whether its method is a constructor
+abbrev pub KnowsInit : List ℕ → List ℕ → Site → Type 0
+KnowsInit s t x = isConstructor (methodAt s t x) ≡ x .constructor
 
 -- all of it, of the scratch's front
 pub record Here (s t : List ℕ) (x : Site) : Type 0 where

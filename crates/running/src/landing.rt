@@ -27,7 +27,7 @@ pub fn site_of(b: &[u8], t: &[u8], n: usize, k: Frame) -> Site
     requires { ⌜ Shaped (now b) n (now t) × OfBundle n (now t) k ⌝ }
     ensures { λ x. ⌜ Located (now (b .entry)) n (k .class - 11) (k .method) x (front (now (t .entry))) ⌝ }
 {
-    locate::site(
+    locate::code_site(
         b,
         &t[0..187008],
         n,

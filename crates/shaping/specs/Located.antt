@@ -29,7 +29,7 @@ use Rattle.reader.specs.Whole.{Tables}
 use Rattle.classfiles.specs.declared.pool.Span.{Span}
 use Rattle.rules.specs.Resolve.{resolve}
 use Rattle.shaping.specs.Resolving.{ResolvedAll}
-use Rattle.rules.specs.Sites.{siteBody, Sited, Bounded, programAt, methodAt}
+use Rattle.rules.specs.Sites.{siteBody, Sited, Bounded, programAt, methodAt, KnowsInit}
 use Rattle.rules.specs.declared.site.Site.{Site}
 use Rattle.shaping.specs.declared.locate.Parts.{Parts}
 
@@ -182,20 +182,18 @@ module _ (s t : List ℕ) (x : Site) (p : Parts) (h : Prepared s (x .classes) t)
   unfolding methodOf
   owned = ap (λ (M : Method). M .owner) is-row
 
-  module _ (q : Span) (hq : IsText s q (rowSig s b true (x .method) .name)) (ei : x .constructor ≡ isInit (take (q .end - q .start) (drop (q .start) s))) (ef : x .fixed ≡ method P (firstClass + x .class) (x .method) .static) where
-    pub site-sited : Sited s t (programAt s t x) (methodAt s t x) x
-    unfolding programAt methodOf rowAt rowSig rowStart rowsWord rowIn memberOf
-    site-sited = record {
-      owner = owned;
-      named = λ i. h .resolved .at (x .class) i l ∙ ap (λ (o : ℕ). resolve P (class P o .pool) i) (sym owned);
-      flags = λ i. h .resolved .flags (x .class) i l;
-      params = sym (h .tables .types .params (x .class) (x .method) l g);
-      results = sym (h .tables .types .results (x .class) (x .method) l g);
-      parents = record { count = sym (class-count s (x .classes) t (h .tables .most)); parent = λ c z. h .tables .parents .at c z };
-      constructor = ap isConstructor is-row ∙ ap isInit (sym (hq .is)) ∙ sym ei;
-      static = sym ef;
-      body = ap (λ (M : Method). M .body) is-row ∙ row-body s b (x .method) ∙ sym (k .body) ∙ ap (foundOf (word b (methodRows + 6 * x .method + 1))) (sym eb) ∙ ap (λ (j : ℕ). foundOf j (siteBody s x)) (sym ec);
-    }
+  pub site-sited : x .fixed ≡ method P (firstClass + x .class) (x .method) .static → Sited s t (programAt s t x) (methodAt s t x) x
+  unfolding programAt methodOf
+  site-sited ef = record {
+    owner = owned;
+    named = λ i. h .resolved .at (x .class) i l ∙ ap (λ (o : ℕ). resolve P (class P o .pool) i) (sym owned);
+    flags = λ i. h .resolved .flags (x .class) i l;
+    params = sym (h .tables .types .params (x .class) (x .method) l g);
+    results = sym (h .tables .types .results (x .class) (x .method) l g);
+    parents = record { count = sym (class-count s (x .classes) t (h .tables .most)); parent = λ c z. h .tables .parents .at c z };
+    static = sym ef;
+    body = ap (λ (M : Method). M .body) is-row ∙ row-body s b (x .method) ∙ sym (k .body) ∙ ap (foundOf (word b (methodRows + 6 * x .method + 1))) (sym eb) ∙ ap (λ (j : ℕ). foundOf j (siteBody s x)) (sym ec);
+  }
 
   pub site-within : Within p
   site-within = k .within (h .tables .bodies (x .class) (x .method) l g)
@@ -217,7 +215,7 @@ module _ (s t : List ℕ) (x : Site) (p : Parts) (h : Prepared s (x .classes) t)
   }
 
 -- the code's own site
-module _ (s t : List ℕ) (n c m codes : ℕ) (p : Parts) (i f : Bool) (q : Span) where
+module _ (s t : List ℕ) (n c m codes : ℕ) (p : Parts) (i f : Bool) where
   abbrev siteOf : Site
   siteOf = record {
     classes = n;
@@ -238,14 +236,23 @@ module _ (s t : List ℕ) (n c m codes : ℕ) (p : Parts) (i f : Bool) (q : Span
   }
 
   pub located : Prepared s n t → c < n → m < rowCount (blockAt t c) true → PartsOf s (blockAt t c) m p → codes ≡ word (blockAt t c) (methodRows + 6 * m + 1)
-      → IsText s q (rowSig s (blockAt t c) true m .name) → i ≡ isInit (take (q .end - q .start) (drop (q .start) s)) → f ≡ method (programOf (filesIn s n t)) (firstClass + c) m .static → Located s n c m siteOf t
+      → f ≡ method (programOf (filesIn s n t)) (firstClass + c) m .static → Located s n c m siteOf t
   unfolding siteBody
-  located h l g k ec hq ei ef =
+  located h l g k ec ef =
       let w = k .within (h .tables .bodies c m l g) in
       record {
-        sited = site-sited s t siteOf p h l g k refl ec q hq ei ef;
+        sited = site-sited s t siteOf p h l g k refl ec ef;
         bounded = site-bounded s t siteOf p h l g k refl ec (w .stack) (w .locals) (k .from) (k .to) (w .size) (w .entries) (k .table) (k .framesFrom) (k .framesTo);
         classes = refl;
         class = refl;
         method = refl;
       }
+
+pub knows-init : (s t : List ℕ) (n c m : ℕ) (x : Site) (q : Span) → Prepared s n t → c < n → m < rowCount (blockAt t c) true → Located s n c m x t → IsText s q (rowSig s (blockAt t c) true m .name)
+    → x .constructor ≡ isInit (take (q .end - q .start) (drop (q .start) s)) → KnowsInit s t x
+unfolding programAt methodOf rowAt rowSig rowStart rowsWord rowIn memberOf
+knows-init s t n c m x q h l g z hq e =
+    ap (λ (k : ℕ). isConstructor (method (programOf (filesIn s k t)) (firstClass + x .class) (x .method))) (z .classes)
+    ∙ ap (λ (k : ℕ). isConstructor (method (programOf (filesIn s n t)) (firstClass + k) (x .method))) (z .class)
+    ∙ ap (λ (k : ℕ). isConstructor (method (programOf (filesIn s n t)) (firstClass + c) k)) (z .method)
+    ∙ ap isConstructor (method-at s n t (h .tables .most) c l m g) ∙ ap isInit (sym (hq .is)) ∙ sym e

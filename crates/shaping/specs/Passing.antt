@@ -24,9 +24,9 @@ use Rattle.rules.specs.Opcodes.{body}
 use Rattle.rules.specs.Lines.{Line, lines}
 use Rattle.rules.specs.Shape.{isOnce, notTwice, bodyClaims, formClaims, shapeClaims}
 use Rattle.shaping.specs.Verify.{overMethods, overClasses, bundleClasses}
-use Rattle.rules.specs.Sites.{front, siteBody, programAt, methodAt, Here}
+use Rattle.rules.specs.Sites.{front, siteBody, programAt, methodAt, KnowsInit, Here}
 use Rattle.shaping.specs.Marks.{ruledAs, linesAt, Marked, Scanned, Ready}
-use Rattle.shaping.specs.ScanLaws.{here-front, lines-front, body-here}
+use Rattle.shaping.specs.ScanLaws.{here-front, init-front, lines-front, body-here}
 use Rattle.shaping.specs.Located.{Located}
 use Rattle.shaping.specs.Kept.{here-by}
 use Rattle.shaping.specs.Phases.{Readied, programNow, shapeBy, judgedAt, ofAll}
@@ -110,6 +110,7 @@ module _ (P : Program) (M : Method) (h : shapeBy P M ≡ pass) where
 pub record Typable (s : List ℕ) (n c m : ℕ) (x : Site) (t u : List ℕ) : Type 0 where
   pub located : Located s n c m x (front t)
   pub ready : Ready s u x
+  pub init : KnowsInit s (front u) x
   pub room : length (parameterTys (methodAt s (front u) x)) ≤ x .locals
   pub front : front u ≡ front t
 
@@ -140,9 +141,9 @@ module _ (s t : List ℕ) (n c m : ℕ) (x : Site) (l : Located s n c m x (front
   unfolding siteBody
   locals-are = ap (λ (b : Body). b .maxLocals) (body-here s t x here codes-one)
 
-  pub typable : (u : List ℕ) (r : Ruled) → 262144 ≤ length t → Scanned s t x r u → Typable s n c m x t u
+  pub typable : (u : List ℕ) (r : Ruled) → 262144 ≤ length t → KnowsInit s (front t) x → Scanned s t x r u → Typable s n c m x t u
   unfolding linesAt
-  typable u r g z = record {
+  typable u r g i z = record {
     located = l;
     ready = record {
       here = here-front s t u x (z .front) here;
@@ -150,6 +151,7 @@ module _ (s t : List ℕ) (n c m : ℕ) (x : Site) (l : Located s n c m x (front
       long = omega (arith, g, z .long);
       marks = subst (λ (ls : List Line). Marked ls (x .end - x .start) u) (sym (lines-front s t u x (z .front))) (z .marks none-refused);
     };
+    init = init-front s t u x (z .front) i;
     room = subst (λ (f : List ℕ). length (parameterTys (methodAt s f x)) ≤ x .locals) (sym (z .front)) (omega (arith, few-params P M at-site, locals-are));
     front = z .front;
   }

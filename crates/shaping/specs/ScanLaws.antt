@@ -14,7 +14,7 @@ use Rattle.rules.specs.Instruction.{Instr}
 use Rattle.rules.specs.Opcodes.{body, codeOf, instruction, sizeAt}
 use Rattle.rules.specs.Lines.{Line, lines}
 use Rattle.rules.specs.Shape.{formClaims}
-use Rattle.rules.specs.Sites.{front, siteCode, siteBody, Sited, Bounded, programAt, methodAt, Here}
+use Rattle.rules.specs.Sites.{front, siteCode, siteBody, Sited, Bounded, programAt, methodAt, KnowsInit, Here}
 use Rattle.shaping.specs.Asks.{Says, markBy, mark-zero, mark-some}
 use Rattle.shaping.specs.SiteLaws.{one-body, code-is, site-says}
 use Rattle.shaping.specs.Marks.{ruledAs, markAt, linesAt, Cleared, Marked, Scanned, Ready}
@@ -27,6 +27,9 @@ use Rattle.rules.specs.declared.site.Ruled.{Ruled}
 pub here-front : (s t u : List ℕ) (x : Site) → front u ≡ front t → Here s t x → Here s u x
 here-front s t u x e h =
     record { sited = subst (λ (f : List ℕ). Sited s f (programAt s f x) (methodAt s f x) x) (sym e) (h .sited); bounded = h .bounded }
+
+pub init-front : (s t u : List ℕ) (x : Site) → front u ≡ front t → KnowsInit s (front t) x → KnowsInit s (front u) x
+init-front s t u x e = subst (λ (f : List ℕ). KnowsInit s f x) (sym e)
 
 pub lines-front : (s t u : List ℕ) (x : Site) → front u ≡ front t → linesAt s u x ≡ linesAt s t x
 unfolding linesAt

@@ -6,6 +6,7 @@ use reader::signature;
 use rules::site::Site;
 use texts::items;
 use texts::names;
+ghost use mathlib.Core.Path.{_≡_};
 ghost use mathlib.Core.Bool.{true};
 ghost use Prim.Native.Nat.{_*_, _<_, _≤_};
 ghost use lib.ListN.{length};
@@ -13,6 +14,7 @@ ghost use Rattle.texts.specs.Reading.{part};
 ghost use Rattle.classfiles.specs.Table.{IsText};
 ghost use Rattle.classfiles.specs.Blocks.{blockSize};
 ghost use Rattle.reader.specs.MemberRows.{blockAt, rowCount};
+ghost use Rattle.rules.specs.Sites.{KnowsInit};
 ghost use Rattle.shaping.specs.Located.{Prepared, PartsOf, Located};
 
 // Of a method with one Code; all zero otherwise.
@@ -86,15 +88,11 @@ fn parts_of(s: &[u8], t: &[u8], c: usize, m: usize) -> Parts
     }
 }
 
-// Method m of class c, of the n classes.
-pub fn site(s: &[u8], t: &[u8], n: usize, c: usize, m: usize) -> Site
+// Method m of class c, of the n classes; whether it is a constructor as told.
+fn site_as(s: &[u8], t: &[u8], n: usize, c: usize, m: usize, constructor: bool) -> Site
     requires { ⌜ Prepared (now s) n (now t) × (c < n) × (m < rowCount (blockAt (now t) c) true) × (16 * blockSize ≤ length (now t)) ⌝ }
-    ensures { λ r. ⌜ Located (now (s .entry)) n c m r (now (t .entry)) ⌝ }
+    ensures { λ r. ⌜ Located (now (s .entry)) n c m r (now (t .entry)) × (r .constructor ≡ constructor) ⌝ }
 {
-    let p = signature::member_name(s, t, c, true, m);
-    let f = p.start;
-    let g = p.end;
-    let constructor = names::is_init(&s[f..g]);
     let fixed = overriding::is_static(s, t, n, 11 + c, m);
     let codes = access::method_word(t, c, m, 1);
     let b = parts_of(s, t, c, m);
@@ -115,4 +113,24 @@ pub fn site(s: &[u8], t: &[u8], n: usize, c: usize, m: usize) -> Site
         constructor,
         fixed,
     }
+}
+
+// Its name is not read: only phase D asks whether a method is a constructor.
+pub fn code_site(s: &[u8], t: &[u8], n: usize, c: usize, m: usize) -> Site
+    requires { ⌜ Prepared (now s) n (now t) × (c < n) × (m < rowCount (blockAt (now t) c) true) × (16 * blockSize ≤ length (now t)) ⌝ }
+    ensures { λ r. ⌜ Located (now (s .entry)) n c m r (now (t .entry)) ⌝ }
+{
+    site_as(s, t, n, c, m, false)
+}
+
+// With its name read.
+pub fn site(s: &[u8], t: &[u8], n: usize, c: usize, m: usize) -> Site
+    requires { ⌜ Prepared (now s) n (now t) × (c < n) × (m < rowCount (blockAt (now t) c) true) × (16 * blockSize ≤ length (now t)) ⌝ }
+    ensures { λ r. ⌜ Located (now (s .entry)) n c m r (now (t .entry)) × KnowsInit (now (s .entry)) (now (t .entry)) r ⌝ }
+{
+    let p = signature::member_name(s, t, c, true, m);
+    let f = p.start;
+    let g = p.end;
+    let constructor = names::is_init(&s[f..g]);
+    site_as(s, t, n, c, m, constructor)
 }

@@ -38,7 +38,7 @@ fn shape_method(s: &[u8], t: &mut [u8], n: usize, c: usize, m: usize) -> Ruled
     requires { ⌜ Readied (now s) n (now t) × (c < n) × (m < rowCount (blockAt (front (now t)) c) true) ⌝ }
     ensures { λ r. ⌜ Judged (judgedAt shapeBy (now (s .entry)) n (now (t .entry)) c m) r (now (t .entry)) (now (t .exit)) ⌝ }
 {
-    let x = locate::site(s, &t[0..187008], n, c, m);
+    let x = locate::code_site(s, &t[0..187008], n, c, m);
     shape::shape_of(s, t, x)
 }
 

@@ -19,8 +19,8 @@ use Rattle.rules.specs.Lines.{Line, lines}
 use Rattle.rules.specs.Frames.{infoAt}
 use Rattle.rules.specs.Sites.{front, programAt, methodAt, Here}
 use Rattle.shaping.specs.Marks.{markAt, linesAt, Marked, Ready}
-use Rattle.shaping.specs.ScanLaws.{here-front, lines-front}
-use Rattle.verifier.specs.FrameReading.{typeAt}
+use Rattle.shaping.specs.ScanLaws.{here-front, init-front, lines-front}
+use Rattle.verifier.specs.FrameReading.{typeAt, Readable}
 use Rattle.rules.specs.declared.site.Site.{Site}
 
 -- n words from w on
@@ -86,7 +86,7 @@ module _ (w n : ℕ) (t u : List ℕ) (b : Besides w n t u) where
     unfolding typeAt linesAt
     besides-types s x f k q = ap (λ (l : List ℕ). infoAt (programAt s l x) (methodAt s l x) (lines (programAt s l x) (methodAt s l x)) f k q) besides-front
 
-    pub besides-ready : (s : List ℕ) (x : Site) → (w + n ≤ 64160) ⊎ (65184 ≤ w) → Ready s t x → Ready s u x
+    besides-ready : (s : List ℕ) (x : Site) → (w + n ≤ 64160) ⊎ (65184 ≤ w) → Ready s t x → Ready s u x
     unfolding markAt
     besides-ready s x o y = record {
       here = here-front s t u x besides-front (y .here);
@@ -104,6 +104,9 @@ module _ (w n : ℕ) (t u : List ℕ) (b : Besides w n t u) where
 
         kept : Marked (linesAt s t x) (x .end - x .start) u
         kept = record { at = λ j l. mark-same j (omega (arith, y .here .bounded .size)) ∙ y .marks .at j l; past = y .marks .past }
+
+    pub besides-readable : (s : List ℕ) (x : Site) → (w + n ≤ 64160) ⊎ (65184 ≤ w) → Readable s t x → Readable s u x
+    besides-readable s x o y = record { marked = besides-ready s x o (y .marked); init = init-front s t u x besides-front (y .init) }
 
 -- one more of a row of types
 pub locals-more : (t : List ℕ) (w i : ℕ) → localsAt t w (suc i) ≡ localsAt t w i ++ (slot t (w + i) ∷ [])

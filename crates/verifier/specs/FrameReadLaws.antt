@@ -25,9 +25,9 @@ use Rattle.rules.specs.DecodeLaws.{is-type}
 use Rattle.rules.specs.Frames.{numberAt, classTy, taggedAt, infoAt}
 use Rattle.rules.specs.Sites.{front, Sited, programAt, methodAt, Here}
 use Rattle.shaping.specs.SiteLaws.{word-front}
-use Rattle.shaping.specs.Marks.{linesAt, Marked, Ready}
+use Rattle.shaping.specs.Marks.{linesAt, Marked}
 use Rattle.shaping.specs.MarkLaws.{new-past}
-use Rattle.verifier.specs.FrameReading.{okType, wrongType, typeNamed, typeClassed, typeMade, typeTagged, typeAt}
+use Rattle.verifier.specs.FrameReading.{okType, wrongType, typeNamed, typeClassed, typeMade, typeTagged, typeAt, Readable}
 use Rattle.rules.specs.declared.site.Site.{Site}
 
 -- a word of another kind
@@ -53,7 +53,7 @@ num-cut f e n p q a h z = go (leb (q + 2) e) refl
         let u : _≡_ {A = ℕ} 0 1 = cc in
         absurd (omega arith)
 
-module _ (s t : List ℕ) (x : Site) (y : Ready s t x) where
+module _ (s t : List ℕ) (x : Site) (y : Readable s t x) where
   abbrev P : Program
   P = programAt s (front t) x
 
@@ -65,7 +65,7 @@ module _ (s t : List ℕ) (x : Site) (y : Ready s t x) where
 
   names : (i w : ℕ) → w ≡ wordOf t (x .class) i → resolve P (class P (M .owner) .pool) i ≡ resolvedAs (u4At s (w / 8 + 1)) w
   names i w e =
-      sym (y .here .sited .named i) ∙ ap (resolvedOf s) (word-front t (x .class) i ∙ sym e)
+      sym (y .marked .here .sited .named i) ∙ ap (resolvedOf s) (word-front t (x .class) i ∙ sym e)
 
   module _ (k i e w : ℕ) (ew : w ≡ wordOf t (x .class) i) where
     pub named-yes : (v : ℕ) → w % 8 ≡ 2 → typeOf v ≡ ini (codeRef (w / 8 % 256)) → okType v e ≡ typeNamed s t x k i e
@@ -98,13 +98,13 @@ module _ (s t : List ℕ) (x : Site) (y : Ready s t x) where
       unfolding typeMade numberAt andThen
       made-yes v n e =
           let l : a .val < x .end - x .start = inside (side (a .val) (x .end - x .start)) in
-          let m : a .val % 65536 ≡ a .val = omega (arith, y .here .bounded .size) in
+          let m : a .val % 65536 ≡ a .val = omega (arith, y .marked .here .bounded .size) in
           rw (is-ok _ a (a .val) h z, ← eb, n, e, m)
         where
           inside : (a .val < x .end - x .start) ⊎ (x .end - x .start ≤ a .val) → a .val < x .end - x .start
           inside (inl l) = l
           inside (inr l) =
-              let d : false ≡ isNewAt all (a .val) = new-past all (x .end - x .start) (a .val) t (y .marks) l in
+              let d : false ≡ isNewAt all (a .val) = new-past all (x .end - x .start) (a .val) t (y .marked .marks) l in
               absurd (not-so (d ∙ sym eb ∙ n))
 
   -- ---- by the tag
@@ -116,7 +116,7 @@ module _ (s t : List ℕ) (x : Site) (y : Ready s t x) where
         (cond (eqb tag 6) (cond (x .constructor) (ok (uninit self) e) (bad 14 k))
         (cond (eqb tag 7) (typeClassed s t x f k e) (cond (eqb tag 8) (typeMade s t x f k e) (bad 14 k))))))
     unfolding typeTagged taggedAt typeClassed typeMade typeNamed
-    tagged-is = rw (y .here .sited .constructor)
+    tagged-is = rw (y .init)
 
     pub tagged-top : tag ≡ 0 → okType 0 e ≡ typeTagged s t x f k tag e
     unfolding typeOf

@@ -11,9 +11,14 @@ use Rattle.rules.specs.Lines.{isNewAt}
 use Rattle.rules.specs.Types.{at, Ty, uninit}
 use Rattle.rules.specs.TypeWords.{typeOf}
 use Rattle.rules.specs.Frames.{numberAt, classTy, taggedAt, infoAt}
-use Rattle.rules.specs.Sites.{front, programAt, methodAt}
-use Rattle.shaping.specs.Marks.{linesAt}
+use Rattle.rules.specs.Sites.{front, programAt, methodAt, KnowsInit}
+use Rattle.shaping.specs.Marks.{linesAt, Ready}
 use Rattle.rules.specs.declared.site.Site.{Site}
+
+-- what the reader asks: the method's marks, and whether it is a constructor
+pub record Readable (s t : List ℕ) (x : Site) : Type 0 where
+  pub marked : Ready s t x
+  pub init : KnowsInit s (front t) x
 
 -- a type's word; whatever is wrong with frame k
 abbrev pub okType : ℕ → ℕ → Res Ty

@@ -9,7 +9,8 @@ use Rattle.kit.specs.Words.{word}
 use Rattle.rules.specs.Frames.{Frame, framesFrom, tableAt, frames}
 use Rattle.rules.specs.FrameRows.{framesAt, framesOf, Laid}
 use Rattle.rules.specs.Sites.{front, programAt, methodAt}
-use Rattle.shaping.specs.Marks.{linesAt, Ready}
+use Rattle.shaping.specs.Marks.{linesAt}
+use Rattle.verifier.specs.FrameReading.{Readable}
 use Rattle.verifier.specs.Drawing.{listIn}
 use Rattle.rules.specs.declared.site.Site.{Site}
 use Rattle.rules.specs.declared.frames.Rows.{Rows}
@@ -41,7 +42,7 @@ module _ (s t : List ℕ) (x : Site) (f : List ℕ) where
 pub record Listed (s t : List ℕ) (x : Site) (table : Res (List Frame)) (r : Framed) (u : List ℕ) : Type 0 where
   pub is : framedAs u r ≡ table
   pub front : front u ≡ front t
-  pub ready : Ready s u x
+  pub ready : Readable s u x
   pub laid : r .ok ≡ true → Laid u (r .rows)
   pub room : r .ok ≡ true → r .rows .at + 68 * r .rows .count + 68 ≤ 65184
   pub locals : r .ok ≡ true → r .rows .locals ≡ x .locals
@@ -52,7 +53,7 @@ pub record RowsRead (s t : List ℕ) (x : Site) (f : List ℕ) (n m q : ℕ) (u 
       pre (framesAt u (x .locals) 46752 k) (framesFrom (programAt s (front t) x) (methodAt s (front t) x) (linesAt s t x) f (n - k) k from (listIn u l) at)
       ≡ framesBy s t x f n m q
   pub front : front u ≡ front t
-  pub ready : Ready s u x
+  pub ready : Readable s u x
   pub long : length u ≡ length t
   pub few : k ≤ n
   pub locals : l ≤ x .locals
@@ -75,4 +76,4 @@ pub record FramesRead (s t : List ℕ) (x : Site) (r : Framed) (u : List ℕ) : 
   pub laid : r .ok ≡ true → Laid u (r .rows)
   pub room : r .ok ≡ true → r .rows .at + 68 * r .rows .count + 68 ≤ 65184
   pub locals : r .ok ≡ true → r .rows .locals ≡ x .locals
-  pub ready : Ready s u x
+  pub ready : Readable s u x

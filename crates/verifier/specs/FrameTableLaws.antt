@@ -32,9 +32,10 @@ use Rattle.rules.specs.Frames.{Frame, frame, Written, written, stateOf, frameAt
 use Rattle.rules.specs.FrameRows.{rowHeld, framesAt, framesOf}
 use Rattle.rules.specs.Sites.{front, siteFrames, siteBody, Sited, programAt, methodAt}
 use Rattle.shaping.specs.ScanLaws.{body-here}
-use Rattle.shaping.specs.Marks.{linesAt, Ready}
+use Rattle.shaping.specs.Marks.{linesAt}
 use Rattle.rules.specs.StepClaims.{frames-outside}
-use Rattle.verifier.specs.Besides.{Besides, besides-word, besides-locals, besides-front, besides-ready}
+use Rattle.verifier.specs.FrameReading.{Readable}
+use Rattle.verifier.specs.Besides.{Besides, besides-word, besides-locals, besides-front, besides-readable}
 use Rattle.verifier.specs.Drawing.{listIn, stackIn, drawnAs}
 use Rattle.verifier.specs.Starts.{entryAt, startTys, start-tys, Started}
 use Rattle.verifier.specs.MethodWalks.{Placeable}
@@ -89,7 +90,7 @@ drawn-bad u k r F h e = sym h ∙ go (r .ok) (not-true (r .ok) e)
     go b z = rw z
 
 -- a refusal
-refused-listed : (s t : List ℕ) (x : Site) (T : Res (List Frame)) (r : Framed) (u : List ℕ) (k : ℕ) → r ≡ refusing k → T ≡ bad 14 k → front u ≡ front t → Ready s u x → Listed s t x T r u
+refused-listed : (s t : List ℕ) (x : Site) (T : Res (List Frame)) (r : Framed) (u : List ℕ) (k : ℕ) → r ≡ refusing k → T ≡ bad 14 k → front u ≡ front t → Readable s u x → Listed s t x T r u
 refused-listed s t x T r u k e h f y = rw e (record { is = sym h; front = f; ready = y; laid = λ z. absurd (not-so z); room = λ z. absurd (not-so z); locals = λ z. absurd (not-so z) })
 
 -- ---- the loop over frames
@@ -103,7 +104,7 @@ module _ (s t : List ℕ) (x : Site) (f : List ℕ) (n m q : ℕ) where
   abbrev L : List Line
   L = linesAt s t x
 
-  pub rows-start : Ready s t x → m ≤ x .locals → RowsRead s t x f n m q t 0 0 m q
+  pub rows-start : Readable s t x → m ≤ x .locals → RowsRead s t x f n m q t 0 0 m q
   unfolding framesAt framesBy
   rows-start y h = record {
     is = pre-nil (framesFrom P M L f (n - 0) 0 0 (listIn t m) q) ∙ (let z : n - 0 ≡ n = omega arith in ap (λ (j : ℕ). framesFrom P M L f j 0 0 (listIn t m) q) z);
@@ -142,8 +143,8 @@ module _ (s t : List ℕ) (x : Site) (f : List ℕ) (n m q : ℕ) where
       front = z .front;
       ready = z .ready;
       laid = λ y. record {
-        inside = omega (arith, z .ready .long);
-        locals = z .ready .here .bounded .locals;
+        inside = omega (arith, z .ready .marked .long);
+        locals = z .ready .marked .here .bounded .locals;
         rising = λ i j a b. z .rising i j a (omega arith);
       };
       room = λ y. omega arith;
@@ -161,8 +162,8 @@ module _ (s t : List ℕ) (x : Site) (f : List ℕ) (n m q : ℕ) where
       front-now : front v ≡ front t
       front-now = besides-front 65184 64 u v (y .besides) (omega arith) ∙ z .front
 
-      ready-now : Ready s v x
-      ready-now = besides-ready 65184 64 u v (y .besides) (omega arith) s x (inr (omega arith)) (z .ready)
+      ready-now : Readable s v x
+      ready-now = besides-readable 65184 64 u v (y .besides) (omega arith) s x (inr (omega arith)) (z .ready)
 
       pub rows-stop : (d : Framed) → not (r .ok) ≡ true → d ≡ refusing k → Listed s t x (framesBy s t x f n m q) d v
       unfolding pre
@@ -180,14 +181,14 @@ module _ (s t : List ℕ) (x : Site) (f : List ℕ) (n m q : ℕ) where
         pub row-asked :
             (r .locals ≤ x .locals) × (x .locals ≤ 32) × (r .stack ≤ 32) × (from + r .delta < 65536) × (46752 + 68 * k + 68 ≤ 65184) × (65288 ≤ length v / 4)
         row-asked =
-            (y .locals good, z .ready .here .bounded .locals, omega (arith, y .stack good, z .ready .here .bounded .stack), y .offset good, omega arith, omega (arith, ready-now .long))
+            (y .locals good, z .ready .marked .here .bounded .locals, omega (arith, y .stack good, z .ready .marked .here .bounded .stack), y .offset good, omega arith, omega (arith, ready-now .marked .long))
 
         module _ (w : List ℕ) (p : RowPut v (46752 + 68 * k) (x .locals) (r .locals) (r .stack) (from + r .delta) w) where
           word-kept : (j : ℕ) → j < 46752 + 68 * k → word w j ≡ word u j
           word-kept j a = besides-word (46752 + 68 * k) 68 v w (p .besides) j (inl a) ∙ besides-word 65184 64 u v (y .besides) j (inl (omega arith))
 
           frames-kept : framesAt w (x .locals) 46752 k ≡ framesAt u (x .locals) 46752 k
-          frames-kept = frames-outside (46752 + 68 * k) u w word-kept (rowsOf k (x .locals)) (z .ready .here .bounded .locals) (omega arith)
+          frames-kept = frames-outside (46752 + 68 * k) u w word-kept (rowsOf k (x .locals)) (z .ready .marked .here .bounded .locals) (omega arith)
 
           list-kept : listIn w (r .locals) ≡ listIn v (r .locals)
           list-kept = besides-locals (46752 + 68 * k) 68 v w (p .besides) 65184 (r .locals) (inr (omega arith))
@@ -198,7 +199,7 @@ module _ (s t : List ℕ) (x : Site) (f : List ℕ) (n m q : ℕ) where
           locals-here : body M .maxLocals ≡ x .locals
           unfolding siteBody
           locals-here =
-              ap (λ (b : Body). b .maxLocals) (ap (λ (g : List ℕ). body (methodAt s g x)) (sym (z .front)) ∙ body-here s u x (z .ready .here) (z .ready .one))
+              ap (λ (b : Body). b .maxLocals) (ap (λ (g : List ℕ). body (methodAt s g x)) (sym (z .front)) ∙ body-here s u x (z .ready .marked .here) (z .ready .marked .one))
 
           row-is : frame (word w (46752 + 68 * k + 64)) (held w (rowHeld w (x .locals) (46752 + 68 * k))) ≡ frame (from + r .delta) (stateOf M W)
           unfolding stateOf
@@ -223,7 +224,7 @@ module _ (s t : List ℕ) (x : Site) (f : List ℕ) (n m q : ℕ) where
                 ∙ ap (pre A) (sym (turn-more P M L f k from (listIn u l) at (n - (k + 1)) W (r .at) (sym same-frame ∙ drawn-ok v k r _ (y .is) e)))
                 ∙ ap (λ (j : ℕ). pre A (framesFrom P M L f j k from (listIn u l) at)) (sym one-less) ∙ z .is;
             front = besides-front (46752 + 68 * k) 68 v w (p .besides) (omega arith) ∙ front-now;
-            ready = besides-ready (46752 + 68 * k) 68 v w (p .besides) (omega arith) s x (inl (omega arith)) ready-now;
+            ready = besides-readable (46752 + 68 * k) 68 v w (p .besides) (omega arith) s x (inl (omega arith)) ready-now;
             long = p .besides .long ∙ y .besides .long ∙ z .long;
             few = omega arith;
             locals = y .locals good;
@@ -283,7 +284,7 @@ besides-start t u e l = record { bytes = bytes; long = l }
     bytes j (inl a) = sym (getD-take 260736 u j 0 (omega arith)) ∙ ap (λ (z : List ℕ). getD z j 0) e ∙ getD-take 260736 t j 0 (omega arith)
     bytes j (inr a) = List·getD-eq-default u 0 (omega arith) ∙ sym (List·getD-eq-default t 0 (omega arith))
 
-module _ (s t : List ℕ) (x : Site) (y : Ready s t x) (room : length (parameterTys (methodAt s (front t) x)) ≤ x .locals) (few : length (paramsIn t (64 * x .class + x .method)) ≤ 16) where
+module _ (s t : List ℕ) (x : Site) (y : Readable s t x) (room : length (parameterTys (methodAt s (front t) x)) ≤ x .locals) (few : length (paramsIn t (64 * x .class + x .method)) ≤ 16) where
   abbrev P₁ : Program
   P₁ = programAt s (front t) x
 
@@ -291,17 +292,17 @@ module _ (s t : List ℕ) (x : Site) (y : Ready s t x) (room : length (parameter
   M₁ = methodAt s (front t) x
 
   sited : Sited s t P₁ M₁ x
-  sited = let b = y .here .bounded in sited-whole t s P₁ M₁ x (b .class) (b .method) (b .classes) few (y .here .sited)
+  sited = let b = y .marked .here .bounded in sited-whole t s P₁ M₁ x (b .class) (b .method) (b .classes) few (y .marked .here .sited)
 
   module _ (u : List ℕ) (h : Held) (m : ℕ) (z : Started t u x h) (em : m ≡ length (startTys t x)) (long : length u ≡ length t) where
     count-is : m ≡ length (parameterTys M₁)
-    count-is = em ∙ ap length (start-tys s t P₁ M₁ x sited)
+    count-is = em ∙ ap length (start-tys s t P₁ M₁ x sited (y .init))
 
     start-list : listIn u m ≡ parameterTys M₁
     unfolding startState padded
     start-list =
         let n : ℕ = body M₁ .maxLocals in
-        let a : localsAt u (h .at) (h .locals) ≡ parameterTys M₁ ++ replicate (n - length (parameterTys M₁)) top = ap localsIn (z .is s P₁ M₁ sited (y .one) room) in
+        let a : localsAt u (h .at) (h .locals) ≡ parameterTys M₁ ++ replicate (n - length (parameterTys M₁)) top = ap localsIn (z .is s P₁ M₁ sited (y .init) (y .marked .one) room) in
         let b : localsAt u 65184 (x .locals) ≡ localsAt u (h .at) (h .locals) = ap (λ (j : ℕ). localsAt u j (x .locals)) (sym (z .at)) ∙ ap (localsAt u (h .at)) (sym (z .locals)) in
         let e : m + (x .locals - m) ≡ x .locals = omega (arith, count-is) in
         let c : listIn u m ++ localsAt u (65184 + m) (x .locals - m) ≡ parameterTys M₁ ++ replicate (n - length (parameterTys M₁)) top =
@@ -315,8 +316,8 @@ module _ (s t : List ℕ) (x : Site) (y : Ready s t x) (room : length (parameter
     start-front : front u ≡ front t
     start-front = besides-front 65184 (length t) t u start-besides (omega arith)
 
-    pub frames-asked : (n : ℕ) → n ≤ 256 → Ready s u x × (n ≤ 256) × (m ≤ x .locals)
-    frames-asked n l = (besides-ready 65184 (length t) t u start-besides (omega arith) s x (inr (omega arith)) y, l, omega (arith, count-is))
+    pub frames-asked : (n : ℕ) → n ≤ 256 → Readable s u x × (n ≤ 256) × (m ≤ x .locals)
+    frames-asked n l = (besides-readable 65184 (length t) t u start-besides (omega arith) s x (inr (omega arith)) y, l, omega (arith, count-is))
 
     pub table-read : (f : List ℕ) (c : Got) (d : Framed) (v : List ℕ) → res c ≡ num2At f (length f) 14 0 0 → not (c .ok) ≡ false → c .val ≤ 256
         → Listed s u x (framesBy s u x f (c .val) m (c .at)) d v → Listed s t x (tableBy s t x f) d v
@@ -343,7 +344,7 @@ count-bad f r e h = go (leb (0 + 2) (length f)) (no-bad (num2At f (length f) 14 
     go true p = let z : _≡_ {A = ℕ} 0 1 = cc in absurd (omega arith)
     go false p = refl
 
-module _ (s t : List ℕ) (x : Site) (y : Ready s t x) (f : List ℕ) (c : Got) (d : Framed) (e : res c ≡ num2At f (length f) 14 0 0) (g : d ≡ refusing 0) where
+module _ (s t : List ℕ) (x : Site) (y : Readable s t x) (f : List ℕ) (c : Got) (d : Framed) (e : res c ≡ num2At f (length f) 14 0 0) (g : d ≡ refusing 0) where
   pub table-cut : not (c .ok) ≡ true → Listed s t x (tableBy s t x f) d t
   unfolding tableBy tableAt andThen
   table-cut h = refused-listed s t x (tableBy s t x f) d t 0 g (rw (count-bad f c e h)) refl y
@@ -353,7 +354,7 @@ module _ (s t : List ℕ) (x : Site) (y : Ready s t x) (f : List ℕ) (c : Got) 
   table-many h l = refused-listed s t x (tableBy s t x f) d t 0 g (rw (no-ok (num2At f (length f) 14 0 0) c (c .val) e h, lt-ltb 256 (c .val) l)) refl y
 
 -- ---- the method's frames
-module _ (s t : List ℕ) (x : Site) (y : Ready s t x) where
+module _ (s t : List ℕ) (x : Site) (y : Readable s t x) where
   abbrev P₂ : Program
   P₂ = programAt s (front t) x
 
@@ -362,7 +363,7 @@ module _ (s t : List ℕ) (x : Site) (y : Ready s t x) where
 
   frames-are : body M₂ .frames ≡ foundOf (x .tables) (siteFrames s x)
   unfolding siteBody
-  frames-are = ap (λ (b : Body). b .frames) (body-here s t x (y .here) (y .one))
+  frames-are = ap (λ (b : Body). b .frames) (body-here s t x (y .marked .here) (y .marked .one))
 
   no-table : (x .tables ≡ 1 → ⊥) → frames P₂ M₂ ≡ ok [] 0
   unfolding frames foundOf
@@ -378,7 +379,7 @@ module _ (s t : List ℕ) (x : Site) (y : Ready s t x) where
     front = refl;
     good = λ z. no-table h;
     bad = λ z. absurd (not-so (sym z));
-    laid = λ z. record { inside = omega (arith, y .long); locals = y .here .bounded .locals; rising = λ i j a b. absurd (omega arith) };
+    laid = λ z. record { inside = omega (arith, y .marked .long); locals = y .marked .here .bounded .locals; rising = λ i j a b. absurd (omega arith) };
     room = λ z. omega arith;
     locals = λ z. refl;
     ready = y;
@@ -411,4 +412,4 @@ module _ (s t : List ℕ) (x : Site) (y : Ready s t x) where
 -- what the walk over the code asks
 pub frames-placeable : (s t : List ℕ) (x : Site) (r : Framed) (u : List ℕ) → FramesRead s t x r u → r .ok ≡ true → Placeable s u x (r .rows)
 frames-placeable s t x r u h e =
-    record { bounded = h .ready .here .bounded; laid = h .laid e; rows = h .room e; locals = h .locals e; size = omega (arith, h .ready .long) }
+    record { bounded = h .ready .marked .here .bounded; laid = h .laid e; rows = h .room e; locals = h .locals e; size = omega (arith, h .ready .marked .long) }

@@ -14,9 +14,8 @@ use Rattle.texts.specs.declared.items.Got.{Got}
 use Rattle.rules.specs.Types.{Ty}
 use Rattle.rules.specs.TypeWords.{typeOf}
 use Rattle.rules.specs.Slots.{localsAt}
-use Rattle.shaping.specs.Marks.{Ready}
-use Rattle.verifier.specs.FrameReading.{typeAt}
-use Rattle.verifier.specs.Besides.{Besides, besides-none, besides-put, besides-types, besides-ready, locals-put}
+use Rattle.verifier.specs.FrameReading.{typeAt, Readable}
+use Rattle.verifier.specs.Besides.{Besides, besides-none, besides-put, besides-types, besides-readable, locals-put}
 use Rattle.rules.specs.declared.site.Site.{Site}
 
 -- n types from q on stand in the words from w on
@@ -36,8 +35,8 @@ module _ (s t : List ℕ) (x : Site) (f : List ℕ) (k n w q : ℕ) where
   types-start = record { is = pre-nil (many (typeAt s t x f k) (n - 0) q) ∙ (let z : n - 0 ≡ n = omega arith in ap (λ (m : ℕ). many (typeAt s t x f k) m q) z); besides = besides-none w n t; few = omega arith }
 
   module _ (u : List ℕ) (a i : ℕ) (z : TypesRead s t x f k n w q u a i) where
-    pub types-ready : Ready s t x → 65184 ≤ w → Ready s u x
-    types-ready y h = besides-ready w n t u (z .besides) (omega arith) s x (inr h) y
+    pub types-ready : Readable s t x → 65184 ≤ w → Readable s u x
+    types-ready y h = besides-readable w n t u (z .besides) (omega arith) s x (inr h) y
 
     pub types-end : n ≤ i → Types s t x f k n w q (record { ok = true; val = 0; at = a }) u
     types-end h =

@@ -57,7 +57,6 @@ here-of s t x d b l =
       params = d .params ∙ sym (params-front t (64 * x .class + x .method) k l);
       results = d .results ∙ sym (results-front t (64 * x .class + x .method) k);
       parents = record { count = d .parents .count; parent = λ c g. word-take 187008 t (25728 + c) (omega (arith, b .classes)) ∙ d .parents .parent c g };
-      constructor = d .constructor;
       static = d .static;
       body = d .body;
     } in

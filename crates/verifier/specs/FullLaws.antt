@@ -15,10 +15,10 @@ use Rattle.rules.specs.Slots.{localsAt}
 use Rattle.rules.specs.Lines.{lines}
 use Rattle.rules.specs.Frames.{Written, written, numberAt, infoAt, fullAt}
 use Rattle.rules.specs.Sites.{front, programAt, methodAt}
-use Rattle.shaping.specs.Marks.{Ready, linesAt}
-use Rattle.verifier.specs.FrameReading.{typeAt}
+use Rattle.shaping.specs.Marks.{linesAt}
+use Rattle.verifier.specs.FrameReading.{typeAt, Readable}
 use Rattle.verifier.specs.FrameTypes.{Types}
-use Rattle.verifier.specs.Besides.{Besides, besides-none, besides-then, besides-wide, besides-locals, besides-front, besides-ready}
+use Rattle.verifier.specs.Besides.{Besides, besides-none, besides-then, besides-wide, besides-locals, besides-front, besides-readable}
 use Rattle.verifier.specs.CleanFaults.{clean, clean-number, clean-many, clean-type, many-length}
 use Rattle.verifier.specs.Drawing.{drawing, listIn, stackIn, sized, fullBy, Drew}
 use Rattle.verifier.specs.DrawLaws.{unfit-drew, size-locals, size-stack, drawn-drew}
@@ -138,8 +138,8 @@ module _ (s t : List ℕ) (x : Site) (f : List ℕ) (k : ℕ) where
         locals-only : Besides 65184 64 t u
         locals-only = besides-wide 65184 (n .val) 65184 64 t u (omega arith) (omega arith) (g .besides)
 
-        pub full-ready : Ready s t x → Ready s u x
-        full-ready h = besides-ready 65184 (n .val) t u (g .besides) (omega arith) s x (inr (omega arith)) h
+        pub full-ready : Readable s t x → Readable s u x
+        full-ready h = besides-readable 65184 (n .val) t u (g .besides) (omega arith) s x (inr (omega arith)) h
 
         pub full-wrong : (r : Drawn) → r .ok ≡ false → a .ok ≡ false → Drew s t x k (fullBy s t x f k d q) r u
         full-wrong r z o =

@@ -21,10 +21,11 @@ use Rattle.rules.specs.Slots.{slot, localsAt}
 use Rattle.rules.specs.Lines.{Line, isStart}
 use Rattle.rules.specs.Frames.{Written, written, noTop, good, judged, frameAt}
 use Rattle.rules.specs.Sites.{front, siteBody, programAt, methodAt}
-use Rattle.shaping.specs.Marks.{linesAt, Ready}
+use Rattle.shaping.specs.Marks.{linesAt}
 use Rattle.shaping.specs.MarkLaws.{start-past}
 use Rattle.shaping.specs.ScanLaws.{body-here, lines-front}
-use Rattle.verifier.specs.Besides.{besides-none, besides-front, besides-ready}
+use Rattle.verifier.specs.FrameReading.{Readable}
+use Rattle.verifier.specs.Besides.{besides-none, besides-front, besides-readable}
 use Rattle.verifier.specs.Drawing.{listIn, stackIn, drawnAs, sized, Drew}
 use Rattle.rules.specs.declared.site.Site.{Site}
 use Rattle.verifier.specs.declared.frame_reader.Drawn.{Drawn}
@@ -79,10 +80,10 @@ module _ (s t : List ℕ) (x : Site) (k from : ℕ) (r : Drawn) where
     unfolding andThen
     at-hand = rw (not-false (r .ok) y)
 
-    pub picked-past : (g : Drawn) → g .ok ≡ false → Ready s t x → 4096 ≤ r .delta → Picked s t x k from r g
+    pub picked-past : (g : Drawn) → g .ok ≡ false → Readable s t x → 4096 ≤ r .delta → Picked s t x k from r g
     unfolding standing
     picked-past g z d l =
-        let o : isStart (linesAt s t x) (from + r .delta) ≡ false = sym (start-past (linesAt s t x) (x .end - x .start) (from + r .delta) t (d .marks) (omega (arith, d .here .bounded .size))) in
+        let o : isStart (linesAt s t x) (from + r .delta) ≡ false = sym (start-past (linesAt s t x) (x .end - x .start) (from + r .delta) t (d .marked .marks) (omega (arith, d .marked .here .bounded .size))) in
         refused g z (at-hand ∙ rw o)
 
     module _ (b : Bool) (eb : b ≡ isStart (linesAt s t x) (from + r .delta)) where
@@ -95,7 +96,7 @@ module _ (s t : List ℕ) (x : Site) (k from : ℕ) (r : Drawn) where
         unfolding standing
         picked-top g z h = refused g z (at-hand ∙ rw (← eb, not-false b e, ← ec, h))
 
-        pub picked-good : Ready s t x → c ≡ true → Picked s t x k from r r
+        pub picked-good : Readable s t x → c ≡ true → Picked s t x k from r r
         unfolding standing
         picked-good d h = record {
           is = rw (not-false (r .ok) y) (sym (sym (rw (not-false (r .ok) y)) ∙ at-hand ∙ rw (← eb, not-false b e, ← ec, h)));
@@ -104,8 +105,8 @@ module _ (s t : List ℕ) (x : Site) (k from : ℕ) (r : Drawn) where
         }
           where
             within : (from + r .delta < x .end - x .start) ⊎ (x .end - x .start ≤ from + r .delta) → from + r .delta < 65536
-            within (inl p) = omega (arith, d .here .bounded .size)
-            within (inr p) = absurd (not-so (start-past (linesAt s t x) (x .end - x .start) (from + r .delta) t (d .marks) p ∙ sym eb ∙ not-false b e))
+            within (inl p) = omega (arith, d .marked .here .bounded .size)
+            within (inr p) = absurd (not-so (start-past (linesAt s t x) (x .end - x .start) (from + r .delta) t (d .marked .marks) p ∙ sym eb ∙ not-false b e))
 
 -- ---- against the definition
 module _ (P : Program) (M : Method) (all : List Line) (f : List ℕ) (k : ℕ) where
@@ -148,18 +149,18 @@ module _ (s t : List ℕ) (x : Site) (f : List ℕ) (k from n q : ℕ) where
     offset = λ y. absurd (not-so (sym z ∙ y));
   }
 
-  module _ (y : Ready s t x) (h : q < length f) (b : ℕ) (eb : b ≡ getD f q 0) where
+  module _ (y : Readable s t x) (h : q < length f) (b : ℕ) (eb : b ≡ getD f q 0) where
     frame-is : frameBy s t x f k from n q ≡ andThen (andThen (formBy s t x f k b n (q + 1)) (sized x k)) (standing s t x k from)
     unfolding frameBy frameAt formBy standing siteBody
     frame-is =
-        let own : body (methodAt s (front t) x) ≡ siteBody s x = body-here s t x (y .here) (y .one) in
+        let own : body (methodAt s (front t) x) ≡ siteBody s x = body-here s t x (y .marked .here) (y .marked .one) in
         rw (lt-ltb q (length f) h, ← eb)
         (then-same (formBy s t x f k b n (q + 1)) _ _ (judged-by (programAt s (front t) x) (methodAt s (front t) x) (linesAt s t x) f k x (ap (λ (j : Body). j .maxLocals) own) (ap (λ (j : Body). j .maxStack) own) from)
         ∙ sym (then-then (formBy s t x f k b n (q + 1)) (sized x k) (standing s t x k from)))
 
     module _ (r : Drawn) (u : List ℕ) (d : Drew s t x k (formBy s t x f k b n (q + 1)) r u) where
-      pub framed-ready : Ready s u x
-      framed-ready = besides-ready 65184 64 t u (d .besides) (omega arith) s x (inr (omega arith)) y
+      pub framed-ready : Readable s u x
+      framed-ready = besides-readable 65184 64 t u (d .besides) (omega arith) s x (inr (omega arith)) y
 
       pub framed : (g : Drawn) → Picked s u x k from r g → Framing s t x f k from n q g u
       unfolding standing

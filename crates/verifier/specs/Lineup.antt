@@ -91,7 +91,6 @@ module _ (t u : List ℕ) (e : take 260736 u ≡ take 260736 t) where
     params = d .params ∙ sym (front-params (64 * x .class + x .method) (omega arith));
     results = d .results ∙ sym (front-results (64 * x .class + x .method) (omega arith));
     parents = front-parents P (firstClass + x .classes) (omega arith) (d .parents);
-    constructor = d .constructor;
     static = d .static;
     body = d .body;
   }

@@ -10,7 +10,7 @@ use Rattle.reader.specs.TypeCodes.{paramsIn}
 use Rattle.reader.specs.MemberRows.{blockAt, rowCount}
 use Rattle.rules.specs.States.{parameterTys}
 use Rattle.rules.specs.Sites.{front, methodAt}
-use Rattle.shaping.specs.Marks.{Ready}
+use Rattle.verifier.specs.FrameReading.{Readable}
 use Rattle.verifier.specs.MethodWalks.{MethodWalked}
 use Rattle.shaping.specs.Passing.{Typable}
 use Rattle.shaping.specs.Phases.{Readied, typingBy, judgedAt, Judged}
@@ -22,8 +22,8 @@ use Rattle.verifier.specs.declared.frame_table.Framed.{Framed}
 
 -- what the frame reader asks, of a method that phase C has passed
 pub frames-asked : (s : List ℕ) (n c m : ℕ) (x : Site) (t u : List ℕ) → Readied s n t → c < n → m < rowCount (blockAt (front t) c) true → Typable s n c m x t u
-    → Ready s u x × (length (parameterTys (methodAt s (front u) x)) ≤ x .locals) × (length (paramsIn u (64 * x .class + x .method)) ≤ 16)
-frames-asked s n c m x t u h l g y = (y .ready, y .room, few-now s n c m x t u u h l g y refl)
+    → Readable s u x × (length (parameterTys (methodAt s (front u) x)) ≤ x .locals) × (length (paramsIn u (64 * x .class + x .method)) ≤ 16)
+frames-asked s n c m x t u h l g y = (record { marked = y .ready; init = y .init }, y .room, few-now s n c m x t u u h l g y refl)
 
 -- t as phase D found the method, u with its marks, v with its frames too
 module _ (s : List ℕ) (n c m : ℕ) (x : Site) (t u v : List ℕ) (h : Readied s n t) (l : c < n) (g : m < rowCount (blockAt (front t) c) true)

@@ -7,7 +7,7 @@ use native.Mathlib.Omega.{arith}
 use lib.ListN.{length, take}
 use Rattle.kit.specs.Claims.{verdict}
 use Rattle.reader.specs.BuiltIns.{firstClass}
-use Rattle.reader.specs.Program.{Program, Method}
+use Rattle.reader.specs.Program.{Program, Method, isConstructor}
 use Rattle.rules.specs.States.{parameterTys}
 use Rattle.rules.specs.Frames.{Frame}
 use Rattle.rules.specs.Walk.{walkClaims}
@@ -34,7 +34,7 @@ pub record Placeable (s t : List ℕ) (x : Site) (f : Rows) : Type 0 where
   pub size : 65288 ≤ length t / 4
 
 pub record MethodWalked (s t u : List ℕ) (x : Site) (f : Rows) (r : Ruled) : Type 0 where
-  pub is : (P : Program) (M : Method) → Sited s t P M x → Typed t P (x .classes) → x .codes ≡ 1 → length (parameterTys M) ≤ x .locals
+  pub is : (P : Program) (M : Method) → Sited s t P M x → isConstructor M ≡ x .constructor → Typed t P (x .classes) → x .codes ≡ 1 → length (parameterTys M) ≤ x .locals
       → ruledAs r ≡ verdict (walkClaims P M (framesOf t f))
   pub front : take 260736 u ≡ take 260736 t
 
@@ -54,10 +54,10 @@ module _ (s t u : List ℕ) (x : Site) (f : Rows) (h : Held) (p : Placeable s t 
 
   pub method-walked : (v : List ℕ) (r : Ruled) → Walked s u v x f h r → MethodWalked s t v x f r
   method-walked v r w = record {
-    is = λ P M d y one m.
+    is = λ P M d i y one m.
         let z = p .rows in
         let n = p .bounded .classes in
-        w .is P M (front-sited t u (b .front) s P M x (p .bounded .class) (p .bounded .method) n d) (front-typed t u (b .front) P (x .classes) n y) one (b .is s P M d one m)
+        w .is P M (front-sited t u (b .front) s P M x (p .bounded .class) (p .bounded .method) n d) (front-typed t u (b .front) P (x .classes) n y) one (b .is s P M d i one m)
         ∙ ap (λ (fs : List Frame). verdict (walkClaims P M fs)) (frames-outside 65184 t u (front-word t u (b .front)) f (p .laid .locals) (omega arith));
     front = w .front ∙ b .front;
   }

@@ -36,9 +36,9 @@ entryAt x = 64 * x .class + x .method
 unfoldable pub startTys : List ℕ → Site → List Ty
 startTys t x = cond (x .fixed) [] (receiverOf x ∷ []) ++ tysOf (paramsIn t (entryAt x))
 
-pub start-tys : (s t : List ℕ) (P : Program) (M : Method) (x : Site) → Sited s t P M x → startTys t x ≡ parameterTys M
+pub start-tys : (s t : List ℕ) (P : Program) (M : Method) (x : Site) → Sited s t P M x → isConstructor M ≡ x .constructor → startTys t x ≡ parameterTys M
 unfolding startTys
-start-tys s t P M x d = sym (rw (d .static, d .constructor, d .owner, d .params))
+start-tys s t P M x d i = sym (rw (d .static, i, d .owner, d .params))
 
 -- ---- one local
 pub receiver-init : (x : Site) (v : Ty) → x .constructor ≡ true → v ≡ uninit self → v ≡ receiverOf x
@@ -125,7 +125,7 @@ padded-by u (suc n) a (y ∷ l) h m =
 
 -- what stands after is the start, where the given locals have room
 pub record Started (t u : List ℕ) (x : Site) (r : Held) : Type 0 where
-  pub is : (s : List ℕ) (P : Program) (M : Method) → Sited s t P M x → x .codes ≡ 1 → length (parameterTys M) ≤ x .locals → held u r ≡ startState M
+  pub is : (s : List ℕ) (P : Program) (M : Method) → Sited s t P M x → isConstructor M ≡ x .constructor → x .codes ≡ 1 → length (parameterTys M) ≤ x .locals → held u r ≡ startState M
   pub at : r .at ≡ 65184
   pub locals : r .locals ≡ x .locals
   pub depth : r .depth ≡ 0
@@ -134,12 +134,12 @@ pub record Started (t u : List ℕ) (x : Site) (r : Held) : Type 0 where
 pub started : (t u : List ℕ) (x : Site) (r : Held) → Filled t u x (x .locals) → r ≡ record { at = 65184; locals = x .locals; depth = 0; flag = x .constructor } → Started t u x r
 unfolding startState stackAt siteBody
 started t u x r b e = rw e (record {
-  is = λ s P M d one h.
-      let l : startTys t x ≡ parameterTys M = start-tys s t P M x d in
+  is = λ s P M d i one h.
+      let l : startTys t x ≡ parameterTys M = start-tys s t P M x d i in
       let n : body M .maxLocals ≡ x .locals = ap (λ (y : Body). y .maxLocals) (one-body s t P M x d one) in
       let a : localsAt u 65184 (x .locals) ≡ padded (x .locals) (parameterTys M) =
       padded-by u (x .locals) 65184 (parameterTys M) (λ j k. b .types j k ∙ ap (λ (y : List Ty). getD y j top) l) h in
-      let c : x .constructor ≡ isConstructor M = sym (d .constructor) in
+      let c : x .constructor ≡ isConstructor M = sym i in
       rw (a, c, n);
   at = refl;
   locals = refl;

@@ -26,7 +26,7 @@ use Rattle.shaping.specs.Marks.{ruledAs}
 use Rattle.shaping.specs.Resolving.{block-same}
 use Rattle.shaping.specs.Located.{Prepared}
 use Rattle.shaping.specs.Kept.{few, prepared-kept}
-use Rattle.shaping.specs.ScanLaws.{here-front}
+use Rattle.shaping.specs.ScanLaws.{here-front, init-front}
 use Rattle.rules.specs.States.{parameterTys}
 use Rattle.verifier.specs.Callees.{Typed}
 use Rattle.verifier.specs.TypedTables.{typed-tables}
@@ -98,7 +98,7 @@ module _ (s : List ℕ) (n c m : ℕ) (x : Site) (t u v : List ℕ) (h : Readied
   unfolding typingBy walked
   method-walked w a e r z k = record {
     is =
-        walked-here s v w x a r here-now (y .ready .one) typed-now few-now room-now k
+        walked-here s v w x a r here-now (init-front s u v x f (y .init)) (y .ready .one) typed-now few-now room-now k
         ∙ ap (walked P M) (sym z) ∙ at-now;
     front = sym (take-take 187008 260736 w (omega arith)) ∙ ap (take 187008) (k .front) ∙ take-take 187008 260736 v (omega arith) ∙ same;
   }

@@ -16,7 +16,7 @@ use Rattle.rules.specs.Walk.{walkClaims}
 use Rattle.rules.specs.Ancestry.{Parents}
 use Rattle.rules.specs.FrameRows.{framesOf}
 use Rattle.rules.specs.ResolvedWords.{wordOf, resolvedOf, Flagged}
-use Rattle.rules.specs.Sites.{front, Sited, Here, programAt, methodAt}
+use Rattle.rules.specs.Sites.{front, Sited, Here, KnowsInit, programAt, methodAt}
 use Rattle.shaping.specs.SiteLaws.{word-front}
 use Rattle.shaping.specs.Marks.{ruledAs}
 use Rattle.verifier.specs.Callees.{Typed}
@@ -55,14 +55,13 @@ module _ (t : List ℕ) where
       count = d .parents .count;
       parent = λ c h. sym (word-take 187008 t (25728 + c) (omega arith)) ∙ d .parents .parent c h;
     };
-    constructor = d .constructor;
     static = d .static;
     body = d .body;
   }
 
-pub walked-here : (s t u : List ℕ) (x : Site) (f : Rows) (r : Ruled) → Here s t x → x .codes ≡ 1 → Typed t (programAt s (front t) x) (x .classes)
+pub walked-here : (s t u : List ℕ) (x : Site) (f : Rows) (r : Ruled) → Here s t x → KnowsInit s (front t) x → x .codes ≡ 1 → Typed t (programAt s (front t) x) (x .classes)
     → length (paramsIn t (64 * x .class + x .method)) ≤ 16 → length (parameterTys (methodAt s (front t) x)) ≤ x .locals → MethodWalked s t u x f r
     → ruledAs r ≡ verdict (walkClaims (programAt s (front t) x) (methodAt s (front t) x) (framesOf t f))
-walked-here s t u x f r h one y m l w =
+walked-here s t u x f r h i one y m l w =
     let b = h .bounded in
-    w .is (programAt s (front t) x) (methodAt s (front t) x) (sited-whole t s (programAt s (front t) x) (methodAt s (front t) x) x (b .class) (b .method) (b .classes) m (h .sited)) y one l
+    w .is (programAt s (front t) x) (methodAt s (front t) x) (sited-whole t s (programAt s (front t) x) (methodAt s (front t) x) x (b .class) (b .method) (b .classes) m (h .sited)) i y one l

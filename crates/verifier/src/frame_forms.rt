@@ -2,7 +2,7 @@
 ghost use mathlib.Core.Path.{_≡_};
 ghost use mathlib.Core.Bool.{true};
 ghost use Prim.Native.Nat.{_≤_};
-ghost use Rattle.shaping.specs.Marks.{Ready};
+ghost use Rattle.verifier.specs.FrameReading.{Readable};
 ghost use Rattle.verifier.specs.Drawing.{stackIn, fullBy, Drew};
 ghost use Rattle.verifier.specs.FrameForms.{stackBy, longBy, formBy};
 ghost use Rattle.verifier.specs.Judging.{topless, Picked};
@@ -25,7 +25,7 @@ fn full_stack(
     n: usize,
     q: usize,
 ) -> Drawn
-    requires { ⌜ Ready (now s) (now t) x × (n ≤ x .locals) ⌝ }
+    requires { ⌜ Readable (now s) (now t) x × (n ≤ x .locals) ⌝ }
     ensures { λ r. ⌜ Drew (now (s .entry)) (now (t .entry)) x k (stackBy (now (s .entry)) (now (t .entry)) x (now (f .entry)) k d n q) r (now (t .exit)) ⌝ }
 {
     let m = items::num2(f, f.len(), 14, k, q);
@@ -44,7 +44,7 @@ fn full_stack(
 
 // A full frame, behind its delta: u2 count and types of locals, then of operands.
 fn full(s: &[u8], t: &mut [u8], x: Site, f: &[u8], k: usize, d: usize, q: usize) -> Drawn
-    requires { ⌜ Ready (now s) (now t) x ⌝ }
+    requires { ⌜ Readable (now s) (now t) x ⌝ }
     ensures { λ r. ⌜ Drew (now (s .entry)) (now (t .entry)) x k (fullBy (now (s .entry)) (now (t .entry)) x (now (f .entry)) k d q) r (now (t .exit)) ⌝ }
 {
     let n = items::num2(f, f.len(), 14, k, q);
@@ -73,7 +73,7 @@ fn long_form(
     n: usize,
     q: usize,
 ) -> Drawn
-    requires { ⌜ Ready (now s) (now t) x × (n ≤ x .locals) ⌝ }
+    requires { ⌜ Readable (now s) (now t) x × (n ≤ x .locals) ⌝ }
     ensures { λ r. ⌜ Drew (now (s .entry)) (now (t .entry)) x k (longBy (now (s .entry)) (now (t .entry)) x (now (f .entry)) k tag d n q) r (now (t .exit)) ⌝ }
 {
     if tag == 247 {
@@ -102,7 +102,7 @@ fn form(
     n: usize,
     q: usize,
 ) -> Drawn
-    requires { ⌜ Ready (now s) (now t) x × (n ≤ x .locals) ⌝ }
+    requires { ⌜ Readable (now s) (now t) x × (n ≤ x .locals) ⌝ }
     ensures { λ r. ⌜ Drew (now (s .entry)) (now (t .entry)) x k (formBy (now (s .entry)) (now (t .entry)) x (now (f .entry)) k tag n q) r (now (t .exit)) ⌝ }
 {
     if tag < 64 {
@@ -141,7 +141,7 @@ fn no_top(t: &[u8], n: usize) -> bool
 
 // A frame that was read, r, where a delta of 0 leads to `from`: it has to stand at an instruction, with no top on the stack.
 fn picked(s: &[u8], t: &[u8], x: Site, k: usize, from: usize, r: Drawn) -> Drawn
-    requires { ⌜ Ready (now s) (now t) x × (from ≤ 65536) × (r .ok ≡ true → r .stack ≤ x .stack) ⌝ }
+    requires { ⌜ Readable (now s) (now t) x × (from ≤ 65536) × (r .ok ≡ true → r .stack ≤ x .stack) ⌝ }
     ensures { λ g. ⌜ Picked (now (s .entry)) (now (t .entry)) x k from r g ⌝ }
 {
     if !r.ok {
@@ -170,7 +170,7 @@ pub fn frame(
     n: usize,
     q: usize,
 ) -> Drawn
-    requires { ⌜ Ready (now s) (now t) x × (n ≤ x .locals) × (from ≤ 65536) ⌝ }
+    requires { ⌜ Readable (now s) (now t) x × (n ≤ x .locals) × (from ≤ 65536) ⌝ }
     ensures { λ r. ⌜ Framing (now (s .entry)) (now (t .entry)) x (now (f .entry)) k from n q r (now (t .exit)) ⌝ }
 {
     if f.len() <= q {

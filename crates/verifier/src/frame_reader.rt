@@ -4,8 +4,7 @@ ghost use mathlib.Core.Bool.{false};
 ghost use Prim.Native.Nat.{_+_, _^_, _<_, _≤_};
 ghost use Rattle.texts.specs.Answers.{resAs};
 ghost use Rattle.rules.specs.TypeWords.{typeOf};
-ghost use Rattle.shaping.specs.Marks.{Ready};
-ghost use Rattle.verifier.specs.FrameReading.{okType, wrongType, typeNamed, typeClassed, typeMade, typeTagged, typeAt};
+ghost use Rattle.verifier.specs.FrameReading.{okType, wrongType, typeNamed, typeClassed, typeMade, typeTagged, typeAt, Readable};
 ghost use Rattle.verifier.specs.FrameTypes.{Types};
 ghost use Rattle.verifier.specs.Drawing.{drawing, oneBy, appendBy, chopBy, Drew};
 use rules::codes;
@@ -40,7 +39,7 @@ fn wrong(k: usize) -> Got
 
 // The type that pool entry i names.
 fn named_type(s: &[u8], t: &[u8], x: Site, k: usize, i: usize, e: usize) -> Got
-    requires { ⌜ Ready (now s) (now t) x ⌝ }
+    requires { ⌜ Readable (now s) (now t) x ⌝ }
     ensures { λ r. ⌜ (resAs r (typeOf (r .val)) ≡ typeNamed (now (s .entry)) (now (t .entry)) x k i e) × (r .val < 2 ^ 32) ⌝ }
 {
     let w = decode::named_word(t, x.class, i);
@@ -53,7 +52,7 @@ fn named_type(s: &[u8], t: &[u8], x: Site, k: usize, i: usize, e: usize) -> Got
 
 // After the tags 7 and 8.
 fn class_type(s: &[u8], t: &[u8], x: Site, f: &[u8], k: usize, q: usize) -> Got
-    requires { ⌜ Ready (now s) (now t) x ⌝ }
+    requires { ⌜ Readable (now s) (now t) x ⌝ }
     ensures { λ r. ⌜ (resAs r (typeOf (r .val)) ≡ typeClassed (now (s .entry)) (now (t .entry)) x (now (f .entry)) k q) × (r .val < 2 ^ 32) ⌝ }
 {
     let i = items::num2(f, f.len(), 14, k, q);
@@ -64,7 +63,7 @@ fn class_type(s: &[u8], t: &[u8], x: Site, f: &[u8], k: usize, q: usize) -> Got
 }
 
 fn new_type(s: &[u8], t: &[u8], x: Site, f: &[u8], k: usize, q: usize) -> Got
-    requires { ⌜ Ready (now s) (now t) x ⌝ }
+    requires { ⌜ Readable (now s) (now t) x ⌝ }
     ensures { λ r. ⌜ (resAs r (typeOf (r .val)) ≡ typeMade (now (s .entry)) (now (t .entry)) x (now (f .entry)) k q) × (r .val < 2 ^ 32) ⌝ }
 {
     let i = items::num2(f, f.len(), 14, k, q);
@@ -80,7 +79,7 @@ fn new_type(s: &[u8], t: &[u8], x: Site, f: &[u8], k: usize, q: usize) -> Got
 
 // A type by its tag; what belongs to it stands from e on.
 fn tagged_type(s: &[u8], t: &[u8], x: Site, f: &[u8], k: usize, tag: usize, e: usize) -> Got
-    requires { ⌜ Ready (now s) (now t) x ⌝ }
+    requires { ⌜ Readable (now s) (now t) x ⌝ }
     ensures { λ r. ⌜ (resAs r (typeOf (r .val)) ≡ typeTagged (now (s .entry)) (now (t .entry)) x (now (f .entry)) k tag e) × (r .val < 2 ^ 32) ⌝ }
 {
     if tag == 0 {
@@ -109,7 +108,7 @@ fn tagged_type(s: &[u8], t: &[u8], x: Site, f: &[u8], k: usize, tag: usize, e: u
 
 // The type at q of the table f.
 pub fn type_at(s: &[u8], t: &[u8], x: Site, f: &[u8], k: usize, q: usize) -> Got
-    requires { ⌜ Ready (now s) (now t) x ⌝ }
+    requires { ⌜ Readable (now s) (now t) x ⌝ }
     ensures { λ r. ⌜ (resAs r (typeOf (r .val)) ≡ typeAt (now (s .entry)) (now (t .entry)) x (now (f .entry)) k q) × (r .val < 2 ^ 32) ⌝ }
 {
     if q < f.len() {
@@ -129,7 +128,7 @@ pub fn types(
     w: usize,
     q: usize,
 ) -> Got
-    requires { ⌜ Ready (now s) (now t) x × (65184 ≤ w) × (w + n ≤ 65536) ⌝ }
+    requires { ⌜ Readable (now s) (now t) x × (65184 ≤ w) × (w + n ≤ 65536) ⌝ }
     ensures { λ r. ⌜ Types (now (s .entry)) (now (t .entry)) x (now (f .entry)) k n w q r (now (t .exit)) ⌝ }
 {
     let mut at = q;
@@ -194,7 +193,7 @@ pub fn one_operand(
     n: usize,
     q: usize,
 ) -> Drawn
-    requires { ⌜ Ready (now s) (now t) x × (n ≤ x .locals) ⌝ }
+    requires { ⌜ Readable (now s) (now t) x × (n ≤ x .locals) ⌝ }
     ensures { λ r. ⌜ Drew (now (s .entry)) (now (t .entry)) x k (oneBy (now (s .entry)) (now (t .entry)) x (now (f .entry)) k d n q) r (now (t .exit)) ⌝ }
 {
     if x.stack < 1 {
@@ -220,7 +219,7 @@ pub fn append(
     n: usize,
     q: usize,
 ) -> Drawn
-    requires { ⌜ Ready (now s) (now t) x × (n ≤ x .locals) × (m ≤ 3) ⌝ }
+    requires { ⌜ Readable (now s) (now t) x × (n ≤ x .locals) × (m ≤ 3) ⌝ }
     ensures { λ r. ⌜ Drew (now (s .entry)) (now (t .entry)) x k (appendBy (now (s .entry)) (now (t .entry)) x (now (f .entry)) k d m n q) r (now (t .exit)) ⌝ }
 {
     if x.locals < n + m {
@@ -245,7 +244,7 @@ pub fn chop(
     n: usize,
     e: usize,
 ) -> Drawn
-    requires { ⌜ Ready (now s) (now t) x × (n ≤ x .locals) ⌝ }
+    requires { ⌜ Readable (now s) (now t) x × (n ≤ x .locals) ⌝ }
     ensures { λ r. ⌜ Drew (now (s .entry)) (now (t .entry)) x k (chopBy (now (s .entry)) (now (t .entry)) x (now (f .entry)) k d m n e) r (now (t .entry)) ⌝ }
 {
     if n < m {

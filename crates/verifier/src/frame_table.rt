@@ -8,9 +8,9 @@ ghost use Rattle.reader.specs.TypeCodes.{paramsIn};
 ghost use Rattle.rules.specs.Types.{self};
 ghost use Rattle.rules.specs.States.{noCopy, parameterTys};
 ghost use Rattle.rules.specs.Slots.{localsAt};
+ghost use Rattle.verifier.specs.FrameReading.{Readable};
 ghost use Rattle.verifier.specs.Drawing.{listIn, stackIn};
 ghost use Rattle.rules.specs.Sites.{front, methodAt};
-ghost use Rattle.shaping.specs.Marks.{Ready};
 ghost use Rattle.verifier.specs.Starts.{startTys};
 ghost use Rattle.verifier.specs.RowWrites.{Brought, Topped, SlotsPut, RowPut};
 ghost use Rattle.verifier.specs.FrameTable.{listing, refusing, framesBy, tableBy, Listed, FramesRead};
@@ -144,7 +144,7 @@ fn refused(k: usize) -> Framed
 
 // n frames from q on, the first with m locals at hand before it; nothing may follow them.
 fn over_frames(s: &[u8], t: &mut [u8], x: Site, f: &[u8], n: usize, m: usize, q: usize) -> Framed
-    requires { ⌜ Ready (now s) (now t) x × (n ≤ 256) × (m ≤ x .locals) ⌝ }
+    requires { ⌜ Readable (now s) (now t) x × (n ≤ 256) × (m ≤ x .locals) ⌝ }
     ensures { λ r. ⌜ Listed (now (s .entry)) (now (t .entry)) x (framesBy (now (s .entry)) (now (t .entry)) x (now (f .entry)) n m q) r (now (t .exit)) ⌝ }
 {
     let mut k = 0;
@@ -183,7 +183,7 @@ fn given(t: &[u8], x: Site) -> usize
 
 // The table f of the method at x: a count, then frames.
 fn table(s: &[u8], t: &mut [u8], x: Site, f: &[u8]) -> Framed
-    requires { ⌜ Ready (now s) (now t) x × (length (parameterTys (methodAt (now s) (front (now t)) x)) ≤ x .locals) × (length (paramsIn (now t) (64 * x .class + x .method)) ≤ 16) ⌝ }
+    requires { ⌜ Readable (now s) (now t) x × (length (parameterTys (methodAt (now s) (front (now t)) x)) ≤ x .locals) × (length (paramsIn (now t) (64 * x .class + x .method)) ≤ 16) ⌝ }
     ensures { λ r. ⌜ Listed (now (s .entry)) (now (t .entry)) x (tableBy (now (s .entry)) (now (t .entry)) x (now (f .entry))) r (now (t .exit)) ⌝ }
 {
     let c = items::num2(f, f.len(), 14, 0, 0);
@@ -200,7 +200,7 @@ fn table(s: &[u8], t: &mut [u8], x: Site, f: &[u8]) -> Framed
 
 // The frames of the method at x, in rows; none where it has no table.
 pub fn frames(s: &[u8], t: &mut [u8], x: Site) -> Framed
-    requires { ⌜ Ready (now s) (now t) x × (length (parameterTys (methodAt (now s) (front (now t)) x)) ≤ x .locals) × (length (paramsIn (now t) (64 * x .class + x .method)) ≤ 16) ⌝ }
+    requires { ⌜ Readable (now s) (now t) x × (length (parameterTys (methodAt (now s) (front (now t)) x)) ≤ x .locals) × (length (paramsIn (now t) (64 * x .class + x .method)) ≤ 16) ⌝ }
     ensures { λ r. ⌜ FramesRead (now (s .entry)) (now (t .entry)) x r (now (t .exit)) ⌝ }
 {
     if x.tables != 1 {

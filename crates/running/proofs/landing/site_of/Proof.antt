@@ -2,26 +2,26 @@ use borrow.Author.Needs.{needs}
 use Rattle.running.proofs.landing.site_of.Statement.{statement}
 use Rattle.running.proofs.landing.site_of.Tie as tie
 
-sub-site : tie.Need-sub-site
-sub-site c = search needs
+sub-code-site : tie.Need-sub-code-site
+sub-code-site c = search needs
 
-part-site-start : tie.Need-part-site-start
-part-site-start c = search needs
+part-code-site-start : tie.Need-part-code-site-start
+part-code-site-start c = search needs
 
-part-site-end : tie.Need-part-site-end
-part-site-end c = search needs
+part-code-site-end : tie.Need-part-code-site-end
+part-code-site-end c = search needs
 
-sub-site-2 : tie.Need-sub-site-2
-sub-site-2 c = search needs
+sub-code-site-2 : tie.Need-sub-code-site-2
+sub-code-site-2 c = search needs
 
-cast-site : tie.Need-cast-site
-cast-site c = search needs
+cast-code-site : tie.Need-cast-code-site
+cast-code-site c = search needs
 
-cast-site-2 : tie.Need-cast-site-2
-cast-site-2 c = search needs
+cast-code-site-2 : tie.Need-cast-code-site-2
+cast-code-site-2 c = search needs
 
-site-requires : tie.Need-site-requires
-site-requires c κs = search needs
+code-site-requires : tie.Need-code-site-requires
+code-site-requires c κs = search needs
 
 returns : tie.Need-returns
 returns c = search needs
@@ -30,11 +30,11 @@ pub site-of-spec : {M : Type 1} → statement M
 site-of-spec =
     tie.close
     (tie.spec
-    sub-site
-    part-site-start
-    part-site-end
-    sub-site-2
-    cast-site
-    cast-site-2
-    site-requires
+    sub-code-site
+    part-code-site-start
+    part-code-site-end
+    sub-code-site-2
+    cast-code-site
+    cast-code-site-2
+    code-site-requires
     returns)

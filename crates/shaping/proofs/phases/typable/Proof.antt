@@ -25,7 +25,7 @@ site-requires c κs = search needs
 
 -- src/phases.rt:89:5
 mark-requires : tie.Need-mark-requires
-mark-requires c κs = mark-asked _ _ _ _ _ _ (c .before .site .ensures) (c .before .before .before .before .before .before .pre .3) (c .before .before .before .before .before .before .pre .0 .long)
+mark-requires c κs = mark-asked _ _ _ _ _ _ (c .before .site .ensures .0) (c .before .before .before .before .before .before .pre .3) (c .before .before .before .before .before .before .pre .0 .long)
 
 -- src/phases.rt:84:1
 same-length : tie.Need-same-length
@@ -33,7 +33,7 @@ same-length c = search needs
 
 -- src/phases.rt:84:1
 returns : tie.Need-returns
-returns c = typable _ _ _ _ _ _ (c .before .before .before .before .site .ensures) (c .before .before .before .before .before .before .before .before .before .pre .3) _ _ (c .before .before .before .before .before .before .before .before .before .pre .0 .long) (c .before .before .mark .ensures)
+returns c = typable _ _ _ _ _ _ (c .before .before .before .before .site .ensures .0) (c .before .before .before .before .before .before .before .before .before .pre .3) _ _ (c .before .before .before .before .before .before .before .before .before .pre .0 .long) (c .before .before .before .before .site .ensures .1) (c .before .before .mark .ensures)
 
 pub typable-spec : {M : Type 1} → statement M
 typable-spec =

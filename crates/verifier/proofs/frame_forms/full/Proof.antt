@@ -36,7 +36,7 @@ types-requires c κs = search needs
 
 -- src/frame_forms.rt:59:9
 full-stack-requires : tie.Need-full-stack-requires
-full-stack-requires c κs = (full-ready (c .before .before .before .before .before .before .before .before .before .before .before .before .before .before .before .args .s .now) (c .before .before .before .before .before .before .before .before .before .before .before .before .before .before .before .args .t .now) (c .before .before .before .before .before .before .before .before .before .before .before .before .before .before .before .args .x) (c .before .before .before .before .before .before .before .before .before .before .before .before .before .before .before .args .f .now) (c .before .before .before .before .before .before .before .before .before .before .before .before .before .before .before .args .k) (c .before .before .before .before .before .before .before .before .before .before .before .before .before .before .before .args .d) (c .before .before .before .before .before .before .before .before .before .before .before .before .before .before .before .args .q) (c .before .before .before .before .before .before .before .before .before .before .before .num2 .result) (c .before .before .before .before .before .before .before .before .before .before .before .num2 .ensures) (c .before .before .before .before .before .before .before .before .before .if1 .left) (c .before .before .before .before .types .result) _ (c .before .before .before .before .types .ensures) (omega (arith, c .before .before .before .before .before .before .if2 .left, c .before .before .before .before .before .before .before .before .before .before .before .before .before .before .before .pre .here .bounded .locals)) (c .before .before .before .before .before .before .before .before .before .before .before .before .before .before .before .pre), c .before .before .before .before .before .before .if2 .left)
+full-stack-requires c κs = (full-ready (c .before .before .before .before .before .before .before .before .before .before .before .before .before .before .before .args .s .now) (c .before .before .before .before .before .before .before .before .before .before .before .before .before .before .before .args .t .now) (c .before .before .before .before .before .before .before .before .before .before .before .before .before .before .before .args .x) (c .before .before .before .before .before .before .before .before .before .before .before .before .before .before .before .args .f .now) (c .before .before .before .before .before .before .before .before .before .before .before .before .before .before .before .args .k) (c .before .before .before .before .before .before .before .before .before .before .before .before .before .before .before .args .d) (c .before .before .before .before .before .before .before .before .before .before .before .before .before .before .before .args .q) (c .before .before .before .before .before .before .before .before .before .before .before .num2 .result) (c .before .before .before .before .before .before .before .before .before .before .before .num2 .ensures) (c .before .before .before .before .before .before .before .before .before .if1 .left) (c .before .before .before .before .types .result) _ (c .before .before .before .before .types .ensures) (omega (arith, c .before .before .before .before .before .before .if2 .left, c .before .before .before .before .before .before .before .before .before .before .before .before .before .before .before .pre .marked .here .bounded .locals)) (c .before .before .before .before .before .before .before .before .before .before .before .before .before .before .before .pre), c .before .before .before .before .before .before .if2 .left)
 
 -- src/frame_forms.rt:59:9
 same-length : tie.Need-same-length
@@ -44,7 +44,7 @@ same-length c = search needs
 
 -- src/frame_forms.rt:59:9
 returns-3 : tie.Need-returns-3
-returns-3 c = full-good (c .before .before .before .before .before .before .before .before .before .before .before .before .before .before .before .before .before .before .args .s .now) (c .before .before .before .before .before .before .before .before .before .before .before .before .before .before .before .before .before .before .args .t .now) (c .before .before .before .before .before .before .before .before .before .before .before .before .before .before .before .before .before .before .args .x) (c .before .before .before .before .before .before .before .before .before .before .before .before .before .before .before .before .before .before .args .f .now) (c .before .before .before .before .before .before .before .before .before .before .before .before .before .before .before .before .before .before .args .k) (c .before .before .before .before .before .before .before .before .before .before .before .before .before .before .before .before .before .before .args .d) (c .before .before .before .before .before .before .before .before .before .before .before .before .before .before .before .before .before .before .args .q) (c .before .before .before .before .before .before .before .before .before .before .before .before .before .before .num2 .result) (c .before .before .before .before .before .before .before .before .before .before .before .before .before .before .num2 .ensures) (c .before .before .before .before .before .before .before .before .before .before .before .before .if1 .left) (c .before .before .before .before .before .before .before .types .result) _ (c .before .before .before .before .before .before .before .types .ensures) (omega (arith, c .before .before .before .before .before .before .before .before .before .if2 .left, c .before .before .before .before .before .before .before .before .before .before .before .before .before .before .before .before .before .before .pre .here .bounded .locals)) _ _ (c .before .before .before .before .if3 .taken) (c .before .before .full-stack .ensures)
+returns-3 c = full-good (c .before .before .before .before .before .before .before .before .before .before .before .before .before .before .before .before .before .before .args .s .now) (c .before .before .before .before .before .before .before .before .before .before .before .before .before .before .before .before .before .before .args .t .now) (c .before .before .before .before .before .before .before .before .before .before .before .before .before .before .before .before .before .before .args .x) (c .before .before .before .before .before .before .before .before .before .before .before .before .before .before .before .before .before .before .args .f .now) (c .before .before .before .before .before .before .before .before .before .before .before .before .before .before .before .before .before .before .args .k) (c .before .before .before .before .before .before .before .before .before .before .before .before .before .before .before .before .before .before .args .d) (c .before .before .before .before .before .before .before .before .before .before .before .before .before .before .before .before .before .before .args .q) (c .before .before .before .before .before .before .before .before .before .before .before .before .before .before .num2 .result) (c .before .before .before .before .before .before .before .before .before .before .before .before .before .before .num2 .ensures) (c .before .before .before .before .before .before .before .before .before .before .before .before .if1 .left) (c .before .before .before .before .before .before .before .types .result) _ (c .before .before .before .before .before .before .before .types .ensures) (omega (arith, c .before .before .before .before .before .before .before .before .before .if2 .left, c .before .before .before .before .before .before .before .before .before .before .before .before .before .before .before .before .before .before .pre .marked .here .bounded .locals)) _ _ (c .before .before .before .before .if3 .taken) (c .before .before .full-stack .ensures)
 
 -- src/frame_forms.rt:61:5
 unfit-requires-3 : tie.Need-unfit-requires-3
@@ -56,7 +56,7 @@ same-length-2 c = search needs
 
 -- src/frame_forms.rt:46:1
 returns-4 : tie.Need-returns-4
-returns-4 c = full-wrong (c .before .before .before .before .before .before .before .before .before .before .before .before .before .before .before .args .s .now) (c .before .before .before .before .before .before .before .before .before .before .before .before .before .before .before .args .t .now) (c .before .before .before .before .before .before .before .before .before .before .before .before .before .before .before .args .x) (c .before .before .before .before .before .before .before .before .before .before .before .before .before .before .before .args .f .now) (c .before .before .before .before .before .before .before .before .before .before .before .before .before .before .before .args .k) (c .before .before .before .before .before .before .before .before .before .before .before .before .before .before .before .args .d) (c .before .before .before .before .before .before .before .before .before .before .before .before .before .before .before .args .q) (c .before .before .before .before .before .before .before .before .before .before .before .num2 .result) (c .before .before .before .before .before .before .before .before .before .before .before .num2 .ensures) (c .before .before .before .before .before .before .before .before .before .if1 .left) (c .before .before .before .before .types .result) _ (c .before .before .before .before .types .ensures) (omega (arith, c .before .before .before .before .before .before .if2 .left, c .before .before .before .before .before .before .before .before .before .before .before .before .before .before .before .pre .here .bounded .locals)) _ (c .unfit3 .ensures) (c .before .if3 .left)
+returns-4 c = full-wrong (c .before .before .before .before .before .before .before .before .before .before .before .before .before .before .before .args .s .now) (c .before .before .before .before .before .before .before .before .before .before .before .before .before .before .before .args .t .now) (c .before .before .before .before .before .before .before .before .before .before .before .before .before .before .before .args .x) (c .before .before .before .before .before .before .before .before .before .before .before .before .before .before .before .args .f .now) (c .before .before .before .before .before .before .before .before .before .before .before .before .before .before .before .args .k) (c .before .before .before .before .before .before .before .before .before .before .before .before .before .before .before .args .d) (c .before .before .before .before .before .before .before .before .before .before .before .before .before .before .before .args .q) (c .before .before .before .before .before .before .before .before .before .before .before .num2 .result) (c .before .before .before .before .before .before .before .before .before .before .before .num2 .ensures) (c .before .before .before .before .before .before .before .before .before .if1 .left) (c .before .before .before .before .types .result) _ (c .before .before .before .before .types .ensures) (omega (arith, c .before .before .before .before .before .before .if2 .left, c .before .before .before .before .before .before .before .before .before .before .before .before .before .before .before .pre .marked .here .bounded .locals)) _ (c .unfit3 .ensures) (c .before .if3 .left)
 
 pub full-spec : {M : Type 1} → statement M
 full-spec =

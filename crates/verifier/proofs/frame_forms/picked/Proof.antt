@@ -23,7 +23,7 @@ add-is-start : tie.Need-add-is-start
 add-is-start c = search needs
 
 is-start-requires : tie.Need-is-start-requires
-is-start-requires c κs = search needs
+is-start-requires c κs = c .before .before .before .before .before .before .before .pre .0 .marked
 
 unfit-requires-2 : tie.Need-unfit-requires-2
 unfit-requires-2 c κs = search needs
@@ -32,7 +32,7 @@ returns-3 : tie.Need-returns-3
 returns-3 c = picked-off (c .before .before .before .before .before .before .before .before .before .before .args .s .now) (c .before .before .before .before .before .before .before .before .before .before .args .t .now) (c .before .before .before .before .before .before .before .before .before .before .args .x) (c .before .before .before .before .before .before .before .before .before .before .args .k) (c .before .before .before .before .before .before .before .before .before .before .args .from) (c .before .before .before .before .before .before .before .before .before .before .args .r) (c .before .before .before .before .before .before .if1 .left) _ (c .before .before .is-start .ensures) _ (c .unfit2 .ensures) (c .before .if3 .taken)
 
 no-top-requires : tie.Need-no-top-requires
-no-top-requires c κs = omega (arith, c .before .before .before .before .before .before .before .before .before .pre .2 (not-false _ (c .before .before .before .before .before .if1 .left)), c .before .before .before .before .before .before .before .before .before .pre .0 .here .bounded .stack)
+no-top-requires c κs = omega (arith, c .before .before .before .before .before .before .before .before .before .pre .2 (not-false _ (c .before .before .before .before .before .if1 .left)), c .before .before .before .before .before .before .before .before .before .pre .0 .marked .here .bounded .stack)
 
 returns-4 : tie.Need-returns-4
 returns-4 c = picked-good (c .before .before .before .before .before .before .before .before .before .before .before .args .s .now) (c .before .before .before .before .before .before .before .before .before .before .before .args .t .now) (c .before .before .before .before .before .before .before .before .before .before .before .args .x) (c .before .before .before .before .before .before .before .before .before .before .before .args .k) (c .before .before .before .before .before .before .before .before .before .before .before .args .from) (c .before .before .before .before .before .before .before .before .before .before .before .args .r) (c .before .before .before .before .before .before .before .if1 .left) _ (c .before .before .before .is-start .ensures) (c .before .before .if3 .left) _ (c .before .no-top .ensures) (c .before .before .before .before .before .before .before .before .before .before .before .pre .0) (c .if4 .taken)

@@ -43,7 +43,7 @@ same-length c = search needs
 
 -- src/frame_reader.rt:203:9
 returns-2 : tie.Need-returns-2
-returns-2 c = append-good (c .before .before .before .before .before .before .before .before .before .before .before .args .s .now) (c .before .before .before .before .before .before .before .before .before .before .before .args .t .now) (c .before .before .before .before .before .before .before .before .before .before .before .args .x) (c .before .before .before .before .before .before .before .before .before .before .before .args .f .now) (c .before .before .before .before .before .before .before .before .before .before .before .args .k) (c .before .before .before .before .before .before .before .before .before .before .before .args .d) (c .before .before .before .before .before .before .before .before .before .before .before .args .m) (c .before .before .before .before .before .before .before .before .before .before .before .args .n) (c .before .before .before .before .before .before .before .before .before .before .before .args .q) (c .before .before .before .before .types .result) _ (c .before .before .before .before .types .ensures) (omega (arith, c .before .before .before .before .before .before .if1 .left, c .before .before .before .before .before .before .before .before .before .before .before .pre .0 .here .bounded .locals)) _ (c .sketched .ensures) (c .before .if2 .taken) (c .before .before .before .before .before .before .if1 .left)
+returns-2 c = append-good (c .before .before .before .before .before .before .before .before .before .before .before .args .s .now) (c .before .before .before .before .before .before .before .before .before .before .before .args .t .now) (c .before .before .before .before .before .before .before .before .before .before .before .args .x) (c .before .before .before .before .before .before .before .before .before .before .before .args .f .now) (c .before .before .before .before .before .before .before .before .before .before .before .args .k) (c .before .before .before .before .before .before .before .before .before .before .before .args .d) (c .before .before .before .before .before .before .before .before .before .before .before .args .m) (c .before .before .before .before .before .before .before .before .before .before .before .args .n) (c .before .before .before .before .before .before .before .before .before .before .before .args .q) (c .before .before .before .before .types .result) _ (c .before .before .before .before .types .ensures) (omega (arith, c .before .before .before .before .before .before .if1 .left, c .before .before .before .before .before .before .before .before .before .before .before .pre .0 .marked .here .bounded .locals)) _ (c .sketched .ensures) (c .before .if2 .taken) (c .before .before .before .before .before .before .if1 .left)
 
 -- src/frame_reader.rt:205:5
 unfit-requires-2 : tie.Need-unfit-requires-2
@@ -55,7 +55,7 @@ same-length-2 c = search needs
 
 -- src/frame_reader.rt:194:1
 returns-3 : tie.Need-returns-3
-returns-3 c = append-bad (c .before .before .before .before .before .before .before .before .before .before .before .args .s .now) (c .before .before .before .before .before .before .before .before .before .before .before .args .t .now) (c .before .before .before .before .before .before .before .before .before .before .before .args .x) (c .before .before .before .before .before .before .before .before .before .before .before .args .f .now) (c .before .before .before .before .before .before .before .before .before .before .before .args .k) (c .before .before .before .before .before .before .before .before .before .before .before .args .d) (c .before .before .before .before .before .before .before .before .before .before .before .args .m) (c .before .before .before .before .before .before .before .before .before .before .before .args .n) (c .before .before .before .before .before .before .before .before .before .before .before .args .q) (c .before .before .before .before .types .result) _ (c .before .before .before .before .types .ensures) (omega (arith, c .before .before .before .before .before .before .if1 .left, c .before .before .before .before .before .before .before .before .before .before .before .pre .0 .here .bounded .locals)) _ (c .unfit2 .ensures) (c .before .if2 .left)
+returns-3 c = append-bad (c .before .before .before .before .before .before .before .before .before .before .before .args .s .now) (c .before .before .before .before .before .before .before .before .before .before .before .args .t .now) (c .before .before .before .before .before .before .before .before .before .before .before .args .x) (c .before .before .before .before .before .before .before .before .before .before .before .args .f .now) (c .before .before .before .before .before .before .before .before .before .before .before .args .k) (c .before .before .before .before .before .before .before .before .before .before .before .args .d) (c .before .before .before .before .before .before .before .before .before .before .before .args .m) (c .before .before .before .before .before .before .before .before .before .before .before .args .n) (c .before .before .before .before .before .before .before .before .before .before .before .args .q) (c .before .before .before .before .types .result) _ (c .before .before .before .before .types .ensures) (omega (arith, c .before .before .before .before .before .before .if1 .left, c .before .before .before .before .before .before .before .before .before .before .before .pre .0 .marked .here .bounded .locals)) _ (c .unfit2 .ensures) (c .before .if2 .left)
 
 pub append-spec : {M : Type 1} → statement M
 append-spec =

@@ -26,7 +26,7 @@ returns c = (c .wrong .ensures .0 ∙ made-cut _ _ _ (c .before .before .before 
 
 -- src/frame_reader.rt:71:8
 is-new-at-requires : tie.Need-is-new-at-requires
-is-new-at-requires c κs = search needs
+is-new-at-requires c κs = c .before .before .before .before .before .before .pre .marked
 
 -- src/frame_reader.rt:72:28
 cast-uninit : tie.Need-cast-uninit

@@ -53,7 +53,7 @@ loop-less c = search needs
 
 -- src/frame_reader.rt:126:5
 loop-again : tie.Need-loop-again Inv-loop μ-loop
-loop-again c = types-next _ _ _ _ _ _ _ _ _ _ _ (c .before .before .before .before .before .before .before .before .before .before .loop .inv) (c .before .before .before .before .before .before .before .before .before .before .before .before .before .before .pre .1) (c .before .before .before .before .before .before .before .before .before .loop-test .taken) (c .before .before .before .before .before .before .before .type-at .result) (c .before .before .before .before .before .before .before .type-at .ensures .0) _ (c .before .before .put-word .ensures) (c .before .before .before .before .before .if1 .left) (c .before .before .before .before .before .before .before .type-at .ensures .1) (c .before .before .before .before .before .before .before .before .before .before .before .before .before .before .pre .2) (c .before .before .before .before .before .before .before .before .before .before .before .before .before .before .pre .0 .long)
+loop-again c = types-next _ _ _ _ _ _ _ _ _ _ _ (c .before .before .before .before .before .before .before .before .before .before .loop .inv) (c .before .before .before .before .before .before .before .before .before .before .before .before .before .before .pre .1) (c .before .before .before .before .before .before .before .before .before .loop-test .taken) (c .before .before .before .before .before .before .before .type-at .result) (c .before .before .before .before .before .before .before .type-at .ensures .0) _ (c .before .before .put-word .ensures) (c .before .before .before .before .before .if1 .left) (c .before .before .before .before .before .before .before .type-at .ensures .1) (c .before .before .before .before .before .before .before .before .before .before .before .before .before .before .pre .2) (c .before .before .before .before .before .before .before .before .before .before .before .before .before .before .pre .0 .marked .long)
 
 -- src/frame_reader.rt:120:1
 same-length-2 : tie.Need-same-length-2 Inv-loop μ-loop

@@ -16,13 +16,13 @@ returns : tie.Need-returns
 returns c = frames-none _ _ _ (c .before .before .before .before .before .pre .0) _ (c .before .if1 .taken) (c .listed .ensures)
 
 sub-f : tie.Need-sub-f
-sub-f c = omega (arith, c .before .before .before .before .pre .0 .here .bounded .framesFrom, c .before .before .before .before .pre .0 .here .bounded .framesTo)
+sub-f c = omega (arith, c .before .before .before .before .pre .0 .marked .here .bounded .framesFrom, c .before .before .before .before .pre .0 .marked .here .bounded .framesTo)
 
 part-f-start : tie.Need-part-f-start
-part-f-start c = omega (arith, c .before .before .before .before .pre .0 .here .bounded .framesFrom, c .before .before .before .before .pre .0 .here .bounded .framesTo)
+part-f-start c = omega (arith, c .before .before .before .before .pre .0 .marked .here .bounded .framesFrom, c .before .before .before .before .pre .0 .marked .here .bounded .framesTo)
 
 part-f-end : tie.Need-part-f-end
-part-f-end c = omega (arith, c .before .before .before .before .pre .0 .here .bounded .framesFrom, c .before .before .before .before .pre .0 .here .bounded .framesTo)
+part-f-end c = omega (arith, c .before .before .before .before .pre .0 .marked .here .bounded .framesFrom, c .before .before .before .before .pre .0 .marked .here .bounded .framesTo)
 
 table-requires : tie.Need-table-requires
 table-requires c κs = c .before .before .before .before .before .before .pre

@@ -27,10 +27,10 @@ returns-2 : tie.Need-returns-2
 returns-2 c = table-many _ _ _ (c .before .before .before .before .before .before .before .before .before .pre .0) _ (c .before .before .before .before .before .num2 .result) _ (c .before .before .before .before .before .num2 .ensures) (c .refused2 .ensures) (c .before .before .before .if1 .left) (c .before .if2 .taken)
 
 given-requires : tie.Need-given-requires
-given-requires c κs = (c .before .before .before .before .before .before .before .before .before .pre .0 .here .bounded .class, c .before .before .before .before .before .before .before .before .before .pre .0 .here .bounded .method)
+given-requires c κs = (c .before .before .before .before .before .before .before .before .before .pre .0 .marked .here .bounded .class, c .before .before .before .before .before .before .before .before .before .pre .0 .marked .here .bounded .method)
 
 start-requires : tie.Need-start-requires
-start-requires c κs = (c .before .before .before .before .before .before .before .before .before .before .before .pre .0 .here .bounded .class, c .before .before .before .before .before .before .before .before .before .before .before .pre .0 .here .bounded .method, c .before .before .before .before .before .before .before .before .before .before .before .pre .0 .here .bounded .locals, omega (arith, c .before .before .before .before .before .before .before .before .before .before .before .pre .0 .long))
+start-requires c κs = (c .before .before .before .before .before .before .before .before .before .before .before .pre .0 .marked .here .bounded .class, c .before .before .before .before .before .before .before .before .before .before .before .pre .0 .marked .here .bounded .method, c .before .before .before .before .before .before .before .before .before .before .before .pre .0 .marked .here .bounded .locals, omega (arith, c .before .before .before .before .before .before .before .before .before .before .before .pre .0 .marked .long))
 
 over-frames-requires : tie.Need-over-frames-requires
 over-frames-requires c κs = frames-asked _ _ _ (c .before .before .before .before .before .before .before .before .before .before .before .before .before .before .before .pre .0) (c .before .before .before .before .before .before .before .before .before .before .before .before .before .before .before .pre .1) (c .before .before .before .before .before .before .before .before .before .before .before .before .before .before .before .pre .2) _ (c .before .before .before .start .result) _ (c .before .before .before .start .ensures) (c .before .before .before .before .before .given .ensures) (c .before .before .before .start .kept .0) _ (c .before .before .before .before .before .before .before .if2 .left)
