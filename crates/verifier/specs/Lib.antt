@@ -3,6 +3,7 @@ pub mod Callees
 pub mod Preparing
 pub mod Lineup
 pub mod Walks
+pub mod Quick
 pub mod Starts
 pub mod MethodWalks
 pub mod TypedTables

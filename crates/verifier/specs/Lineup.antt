@@ -222,7 +222,7 @@ module _ (s t : List ℕ) (x : Site) (kin : Kin) (f : Rows) (h : Held) (w : Walk
     bounded = w .bounded;
   }
 
-outside-front : (t u : List ℕ) (a : ℕ) → a ≡ 65184 → Outside a t u → take 260736 u ≡ take 260736 t
+pub outside-front : (t u : List ℕ) (a : ℕ) → a ≡ 65184 → Outside a t u → take 260736 u ≡ take 260736 t
 outside-front t u a e h = take-less 260736 (4 * a) t u (omega arith) (h .front)
 
 beside-front : (t u : List ℕ) → Beside 65256 t u → take 260736 u ≡ take 260736 t
@@ -308,10 +308,10 @@ module _ (s t : List ℕ) (x : Site) (kin : Kin) (f : Rows) (h : Held) (w : Walk
   pub walking-known : (u v : List ℕ) (g : Held) → Going h g → Outside (h .at) t u → Beside 65256 u v → length v ≡ length t → Walking s v x kin f g
   walking-known u v g go out b l = walking-on s t x kin f h w v g go (beside-front u v b ∙ outside-front t u (h .at) (w .at) out) l
 
-  pub walking-at : (u : List ℕ) (d : ℕ) (b : Bool) → d ≤ 32 → take 260736 u ≡ take 260736 t → length u ≡ length t
-      → Walking s u x kin f (record { at = h .at; locals = h .locals; depth = d; flag = b })
-  walking-at u d b m e l =
-      walking-on s t x kin f h w u (record { at = h .at; locals = h .locals; depth = d; flag = b }) (record { at = refl; locals = refl; depth = m }) e l
+  pub walking-at : (u : List ℕ) (d : ℕ) (b : Bool) (g : Held) → g ≡ record { at = h .at; locals = h .locals; depth = d; flag = b } → d ≤ 32 → take 260736 u ≡ take 260736 t → length u ≡ length t
+      → Walking s u x kin f g
+  walking-at u d b g q m e l =
+      rw q (walking-on s t x kin f h w u (record { at = h .at; locals = h .locals; depth = d; flag = b }) (record { at = refl; locals = refl; depth = m }) e l)
 
   pub step-ready : (k : Known) → k .args .at ≡ 65256 → k .args .count < 32 → length s * 1 < 2 ^ 63
       → Roomy t h × (h .depth ≤ 32) × (k .args .at + k .args .count ≤ length t / 4) × Laid t f × (kin .at + kin .count ≤ h .at) × (f .at + 68 * f .count ≤ h .at)

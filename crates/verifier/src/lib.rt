@@ -3,6 +3,7 @@ pub mod callees;
 pub mod frame_forms;
 pub mod frame_reader;
 pub mod frame_table;
+pub mod quick;
 pub mod start;
 pub mod typing;
 pub mod verify;

@@ -1,22 +1,27 @@
 // The walk over a method's code: one instruction after another, by offset.
 ghost use mathlib.Core.Path.{_≡_};
-ghost use Prim.Native.Nat.{_+_, _*_, _^_, _≤_, _/_};
+ghost use mathlib.Core.Bool.{true};
+ghost use mathlib.Core.Option.{none};
+ghost use Prim.Native.Nat.{_+_, _-_, _*_, _^_, _≤_, _/_};
 ghost use lib.ListN.{length};
 ghost use Rattle.kit.specs.Claims.{is, verdict};
 ghost use Rattle.classfiles.specs.Attributes.{handlersFrom};
 ghost use Rattle.reader.specs.BuiltIns.{firstClass};
 ghost use Rattle.rules.specs.Walk.{frameAt, meets, merged};
 ghost use Rattle.rules.specs.Ancestry.{lineage};
-ghost use Rattle.rules.specs.Slots.{held, Roomy, Outside};
-ghost use Rattle.rules.specs.FrameRows.{framesOf, Laid};
-ghost use Rattle.rules.specs.Handlers.{catchIn};
+ghost use Rattle.rules.specs.Slots.{held, localsOf, Roomy, Outside};
+ghost use Rattle.rules.specs.FrameRows.{framesAt, framesOf, Laid};
+ghost use Rattle.rules.specs.Handlers.{catchIn, handlersBy};
+ghost use Rattle.rules.specs.Sites.{siteCode};
 ghost use Rattle.rules.specs.Known.{factsOf, instrAfter};
 ghost use Rattle.rules.specs.StepClaims.{stepBy, Going};
 ghost use Rattle.rules.specs.Loads.{current};
 ghost use Rattle.verifier.specs.Lineup.{Walking, LineDone};
+ghost use Rattle.verifier.specs.Quick.{Tried};
 ghost use Rattle.verifier.specs.Walks.{Ended, Walked};
 ghost use Rattle.verifier.specs.MethodWalks.{Placeable, MethodWalked};
 use crate::callees::known;
+use crate::quick::quick;
 use crate::start::start;
 use rules::calls::Known;
 use rules::decode;
@@ -38,6 +43,7 @@ use rules::slots::fit_states;
 use rules::slots::must;
 use rules::slots::peek;
 use rules::types::Kin;
+use rules::types::Ty;
 
 // A refusal, 0 for none, and where none the state that goes on.
 pub struct Step {
@@ -157,6 +163,92 @@ fn one_line(s: &[u8], t: &mut [u8], x: Site, kin: Kin, f: Rows, live: bool, h: H
     }
 }
 
+// ---- Lines that need no decoding. A row of the frames goes along with the walk, so that no frame is looked for where none stands.
+
+// The rows below this one stand before o.
+fn behind(t: &[u8], f: Rows, row: usize, o: usize) -> bool
+    requires { ⌜ Laid (now t) f × (row ≤ f .count) ⌝ }
+    ensures { λ r. ⌜ (r ≡ true → frameAt (framesAt (now (t .entry)) (f .locals) (f .at + 68 * row) (f .count - row)) o ≡ frameAt (framesOf (now (t .entry)) f) o) ⌝ }
+{
+    if row == 0 {
+        return true;
+    }
+    let w = kit::word(t, f.at + 68 * (row - 1) + 64) as usize;
+    w < o
+}
+
+// No frame stands at o: the rows below this one stand before it, and this one behind it.
+fn ahead(t: &[u8], f: Rows, row: usize, o: usize) -> bool
+    requires { ⌜ Laid (now t) f ⌝ }
+    ensures { λ r. ⌜ (r ≡ true → frameAt (framesOf (now (t .entry)) f) o ≡ none) ⌝ }
+{
+    if f.count < row {
+        return false;
+    }
+    if !behind(t, f, row, o) {
+        return false;
+    }
+    if f.count <= row {
+        return true;
+    }
+    let w = kit::word(t, f.at + 68 * row + 64) as usize;
+    o < w
+}
+
+// The row for what stands behind o.
+fn past(t: &[u8], f: Rows, row: usize, o: usize) -> usize
+    requires { ⌜ Laid (now t) f ⌝ }
+{
+    if f.count <= row {
+        return row;
+    }
+    let w = kit::word(t, f.at + 68 * row + 64) as usize;
+    if o < w {
+        return row;
+    }
+    row + 1
+}
+
+// The handlers ask nothing that fails, whatever is not a constructor's call stands at o.
+fn calm(s: &[u8], t: &[u8], x: Site, kin: Kin, f: Rows, h: Held, o: usize) -> bool
+    requires { ⌜ Walking (now s) (now t) x kin f h ⌝ }
+    ensures { λ r. ⌜ (r ≡ true → is 0 ≡ verdict (handlersBy (lineage (now (t .entry)) (kin .at) (kin .count)) (catchIn (now (t .entry)) (x .class) (firstClass + x .classes)) (framesOf (now (t .entry)) f) o (h .flag) (localsOf (now (t .entry)) h) (handlersFrom (now (s .entry)) (x .entries) (x .table)))) ⌝ }
+{
+    if x.entries == 0 {
+        return true;
+    }
+    let r = all_handlers(s, t, x, kin, f, h, false, Ty::top(), o);
+    r == 0
+}
+
+// The instruction at o by its opcode, where that is enough: the depth after it, 64 or 65.
+fn attempt(
+    s: &[u8],
+    t: &mut [u8],
+    x: Site,
+    kin: Kin,
+    f: Rows,
+    live: bool,
+    h: Held,
+    code: &[u8],
+    o: u16,
+    row: usize,
+) -> usize
+    requires { ⌜ Walking (now s) (now t) x kin f h × (now code ≡ siteCode (now s) x) ⌝ }
+    ensures { λ r. ⌜ Tried (now (s .entry)) (now (t .entry)) (now (t .exit)) x f live h o r ⌝ }
+{
+    if !live {
+        return 65;
+    }
+    if !ahead(t, f, row, o as usize) {
+        return 65;
+    }
+    if !calm(s, t, x, kin, f, h, o as usize) {
+        return 65;
+    }
+    quick(s, t, x, kin, f, h, code, o)
+}
+
 // A state at the code's end is 17 there.
 fn ended(live: bool, end: usize) -> Ruled
     ensures { λ r. ⌜ Ended live end r ⌝ }
@@ -170,6 +262,18 @@ fn ended(live: bool, end: usize) -> Ruled
     Ruled {
         number: 0,
         place: 0,
+    }
+}
+
+// The state's place at another depth and flag.
+fn placed(h: Held, depth: usize, flag: bool) -> Held
+    ensures { λ r. ⌜ r ≡ record { at = h .at; locals = h .locals; depth = depth; flag = flag } ⌝ }
+{
+    Held {
+        at: h.at,
+        locals: h.locals,
+        depth,
+        flag,
     }
 }
 
@@ -187,27 +291,30 @@ fn over_lines(s: &[u8], t: &mut [u8], x: Site, kin: Kin, f: Rows, h: Held) -> Ru
     let mut depth = h.depth;
     let mut flag = h.flag;
     let mut left = end;
+    let mut row = 0;
     while 0 < left {
         if end <= o {
             return ended(live, end);
         }
-        let g = Held {
-            at: h.at,
-            locals: h.locals,
-            depth,
-            flag,
-        };
-        let r = one_line(s, t, x, kin, f, live, g, o as u16);
-        let q = r.held;
-        if r.refusal != 0 {
-            return Ruled {
-                number: r.refusal,
-                place: o,
-            };
+        row = past(t, f, row, o);
+        let g = placed(h, depth, flag);
+        let v = attempt(s, t, x, kin, f, live, g, code, o as u16, row);
+        if v == 65 {
+            let r = one_line(s, t, x, kin, f, live, placed(h, depth, flag), o as u16);
+            let number = r.refusal;
+            if number != 0 {
+                return Ruled { number, place: o };
+            }
+            let q = r.held;
+            live = r.live;
+            depth = q.depth;
+            flag = q.flag;
+        } else if v == 64 {
+            live = false;
+        } else {
+            live = true;
+            depth = v;
         }
-        live = r.live;
-        depth = q.depth;
-        flag = q.flag;
         let n = size_at(code, o);
         if n == 0 {
             return ended(live, end);
