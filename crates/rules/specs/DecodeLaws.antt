@@ -1,6 +1,6 @@
 -- Laws of decoding: opcodes that are not listed, and the instruction of a method at a site. Assumes nothing.
 use Prim.Native.Nat.{ℕ, zero, suc, _+_, _-_, _*_, _/_, _%_, _^_, _<_, _≤_}
-use mathlib.Core.Path.{_≡_, refl, sym, ap, _∙_}
+use mathlib.Core.Path.{_≡_, refl, sym, ap, subst, _∙_}
 use mathlib.Core.Bool.{Bool, true, false, cond, _&&_}
 use mathlib.Core.List.{List, [], _∷_}
 use native.Mathlib.Omega.{arith}
@@ -18,8 +18,9 @@ use Rattle.rules.specs.TypeWords.{intBase, baseOf, nest}
 use Rattle.rules.specs.CodeLaws.{ref-class, ref-array}
 use Rattle.rules.specs.TypeCodes.{codeBase, codeRef}
 use Rattle.rules.specs.InstructionWords.{instrOf}
-use Rattle.rules.specs.ResolvedWords.{fieldIn, methodIn, staticBit, initBit, resolvedAs, resolvedIn, wordOf, Flagged}
-use Rattle.rules.specs.Decoding.{Refers, CallsBy, madeBy, made}
+use Rattle.texts.specs.Reading.{u4At}
+use Rattle.rules.specs.ResolvedWords.{fieldIn, methodIn, staticBit, initBit, resolvedAs, resolvedOf, resolvedIn, wordOf, Flagged}
+use Rattle.rules.specs.Decoding.{Refers, CallsBy, madeBy, made, DecodedAt}
 use Rattle.rules.specs.declared.instruction.Instr as code
 
 -- ---- opcodes that are not listed
@@ -219,3 +220,17 @@ module _ (k : ℕ) where
 
   pub array-none : 7 ≤ k % 8 → unresolved ≡ arrayOf (codeRef k)
   array-none l = rw (depth-code, le-ltb (k % 8) 7 l)
+
+-- ---- by the opcode v that stands at o
+module _ (s t : List ℕ) (c : ℕ) (bytes : List ℕ) (o v : ℕ) (r : code.Instr) (ev : getD bytes o 0 ≡ v) where
+  pub decoded-bare : ((P : Program) (pool : ℕ → Resolved) (a b : ℕ) → instrOf r ≡ made P pool v a b o) → DecodedAt s t c bytes o r
+  decoded-bare m = record { is = λ P f. rw ev (m P (resolvedIn s t c) (getD bytes (o + 1) 0) (getD bytes (o + 2) 0)) }
+
+  -- a call of what the word w names
+  pub decoded-call : (fit : Program → MethodRef → Bool) (make : MethodRef → Instr) (w : ℕ) → w ≡ wordOf t c (getD bytes (o + 1) 0 * 256 + getD bytes (o + 2) 0)
+      → ((P : Program) (pool : ℕ → Resolved) (a b : ℕ) → made P pool v a b o ≡ asMethod (fit P) make (pool (a * 256 + b))) → CallsBy fit make w r → DecodedAt s t c bytes o r
+  decoded-call fit make w e m h = record {
+    is = λ P f.
+        h .is P (u4At s (w / 8 + 1)) (subst (Flagged P) (sym e) (f (getD bytes (o + 1) 0 * 256 + getD bytes (o + 2) 0)))
+        ∙ ap (λ (u : ℕ). asMethod (fit P) make (resolvedOf s u)) e ∙ sym (rw ev (m P (resolvedIn s t c) (getD bytes (o + 1) 0) (getD bytes (o + 2) 0)));
+  }

@@ -7,6 +7,7 @@ ghost use Rattle.rules.specs.Opcodes.{extend};
 ghost use Rattle.rules.specs.InstructionWords.{fieldOf, calleeOf, instrOf};
 ghost use Rattle.rules.specs.ResolvedWords.{fieldIn, methodIn, resolvedOf, wordOf};
 ghost use Rattle.rules.specs.Decoding.{Refers, CallsBy, Made, Named, Decoded, DecodedAt};
+ghost use lib.ListN.{getD};
 use crate::codes;
 use crate::instruction::Branch;
 use crate::instruction::Call;
@@ -446,4 +447,30 @@ pub fn instruction(s: &[u8], t: &[u8], c: usize, code: &[u8], o: usize) -> Instr
             at: o,
         },
     )
+}
+
+// The word of what the two bytes behind the opcode at o name.
+pub fn named_at(t: &[u8], c: usize, code: &[u8], o: usize) -> u32
+    requires { ⌜ o < 2 ^ 32 ⌝ }
+    ensures { λ r. ⌜ r ≡ wordOf (now (t .entry)) c (getD (now (code .entry)) (o + 1) 0 * 256 + getD (now (code .entry)) (o + 2) 0) ⌝ }
+{
+    let i = kit::byte(code, o + 1) * 256 + kit::byte(code, o + 2);
+    named_word(t, c, i)
+}
+
+// The same, with calls and returns found by the opcode alone: they are not passed through memory.
+pub fn fetch(s: &[u8], t: &[u8], c: usize, code: &[u8], o: usize) -> Instr
+    requires { ⌜ o < 2 ^ 32 ⌝ }
+    ensures { λ r. ⌜ DecodedAt (now (s .entry)) (now (t .entry)) c (now (code .entry)) o r ⌝ }
+{
+    let op = kit::byte(code, o);
+    match op {
+        0xac => Instr::Leaving(Leave::Ireturn),
+        0xb0 => Instr::Leaving(Leave::Areturn),
+        0xb1 => Instr::Leaving(Leave::Return),
+        0xb6 => virtual_call(named_at(t, c, code, o)),
+        0xb7 => special_call(named_at(t, c, code, o)),
+        0xb8 => static_call(named_at(t, c, code, o)),
+        _ => instruction(s, t, c, code, o),
+    }
 }
