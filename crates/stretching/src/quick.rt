@@ -162,8 +162,8 @@ fn decoded(
     groups::plain(t, kin(y), cells, w, g, c, j)
 }
 
-// Constants.
-fn constants(
+// What decoding makes of the rest.
+fn rare(
     b: &[u8],
     t: &[u8],
     code: &[u8],
@@ -180,33 +180,78 @@ fn constants(
     ensures { λ r. ⌜ Quick (now (b .entry)) (now (t .entry)) (now (code .entry)) y at operands used (now (w .entry)) (now (g .entry)) (now (cells .entry)) (now (w .exit)) (now (g .exit)) (now (cells .exit)) r ⌝ }
 {
     match op {
-        0x00 => forms::nop(w, g, place(y, at, operands, used, 1)),
-        0x01 => forms::null(w, g, place(y, at, operands, used, 1)),
-        0x02 => forms::constant(w, g, place(y, at, operands, used, 1), 0xffff_ffff),
-        0x03 => forms::constant(w, g, place(y, at, operands, used, 1), 0),
-        0x04 => forms::constant(w, g, place(y, at, operands, used, 1), 1),
-        0x05 => forms::constant(w, g, place(y, at, operands, used, 1), 2),
-        0x06 => forms::constant(w, g, place(y, at, operands, used, 1), 3),
-        0x07 => forms::constant(w, g, place(y, at, operands, used, 1), 4),
-        0x08 => forms::constant(w, g, place(y, at, operands, used, 1), 5),
-        0x10 => forms::constant(
-            w,
-            g,
-            place(y, at, operands, used, 2),
-            decode::spread_byte(first(code, at)),
-        ),
-        0x11 => forms::constant(
+        0x12 | 0xbc | 0xbd | 0xc0 | 0xc1 => decoded(b, t, code, cells, w, g, y, at, operands, used),
+        _ => elsewhere(used),
+    }
+}
+
+// Fields and tests of references.
+fn others(
+    b: &[u8],
+    t: &[u8],
+    code: &[u8],
+    cells: &mut [u32],
+    w: &mut [u32],
+    g: &mut [u8],
+    y: Ground,
+    at: u32,
+    operands: usize,
+    used: u32,
+    op: usize,
+) -> Turn
+    requires { ⌜ Ready (now code) (now cells) (now w) (now g) y at operands × (op ≡ getD (now code) at 0) ⌝ }
+    ensures { λ r. ⌜ Quick (now (b .entry)) (now (t .entry)) (now (code .entry)) y at operands used (now (w .entry)) (now (g .entry)) (now (cells .entry)) (now (w .exit)) (now (g .exit)) (now (cells .exit)) r ⌝ }
+{
+    match op {
+        0x53 => memory::aastore(t, kin(y), cells, w, g, place(y, at, operands, used, 1)),
+        0xa5 => memory::if_same(
+            t,
+            kin(y),
+            cells,
             w,
             g,
             place(y, at, operands, used, 3),
-            decode::spread_half(bytes(code, at)),
+            true,
+            decode::target(bytes(code, at)),
         ),
-        _ => elsewhere(used),
+        0xa6 => memory::if_same(
+            t,
+            kin(y),
+            cells,
+            w,
+            g,
+            place(y, at, operands, used, 3),
+            false,
+            decode::target(bytes(code, at)),
+        ),
+        0xb4 => get_field(b, t, code, cells, w, g, y, at, operands, used),
+        0xb5 => put_field(b, t, code, cells, w, g, y, at, operands, used),
+        0xc6 => memory::if_null(
+            t,
+            kin(y),
+            cells,
+            w,
+            g,
+            place(y, at, operands, used, 3),
+            true,
+            decode::target(bytes(code, at)),
+        ),
+        0xc7 => memory::if_null(
+            t,
+            kin(y),
+            cells,
+            w,
+            g,
+            place(y, at, operands, used, 3),
+            false,
+            decode::target(bytes(code, at)),
+        ),
+        _ => rare(b, t, code, cells, w, g, y, at, operands, used, op),
     }
 }
 
-// Loads.
-fn loads(
+// Branches by numbers.
+fn branches(
     b: &[u8],
     t: &[u8],
     code: &[u8],
@@ -222,74 +267,22 @@ fn loads(
     requires { ⌜ Ready (now code) (now cells) (now w) (now g) y at operands × (op ≡ getD (now code) at 0) ⌝ }
     ensures { λ r. ⌜ Quick (now (b .entry)) (now (t .entry)) (now (code .entry)) y at operands used (now (w .entry)) (now (g .entry)) (now (cells .entry)) (now (w .exit)) (now (g .exit)) (now (cells .exit)) r ⌝ }
 {
+    let o = decode::target(bytes(code, at));
     match op {
-        0x15 => forms::load_int(
-            w,
-            g,
-            place(y, at, operands, used, 2),
-            first(code, at) as u16,
-        ),
-        0x19 => forms::load_ref(
-            w,
-            g,
-            place(y, at, operands, used, 2),
-            first(code, at) as u16,
-        ),
-        0x1a => forms::load_int(w, g, place(y, at, operands, used, 1), 0),
-        0x1b => forms::load_int(w, g, place(y, at, operands, used, 1), 1),
-        0x1c => forms::load_int(w, g, place(y, at, operands, used, 1), 2),
-        0x1d => forms::load_int(w, g, place(y, at, operands, used, 1), 3),
-        0x2a => forms::load_ref(w, g, place(y, at, operands, used, 1), 0),
-        0x2b => forms::load_ref(w, g, place(y, at, operands, used, 1), 1),
-        0x2c => forms::load_ref(w, g, place(y, at, operands, used, 1), 2),
-        0x2d => forms::load_ref(w, g, place(y, at, operands, used, 1), 3),
-        0x2e => memory::iaload(t, kin(y), cells, w, g, place(y, at, operands, used, 1)),
-        0x32 => memory::aaload(t, kin(y), cells, w, g, place(y, at, operands, used, 1)),
-        _ => elsewhere(used),
-    }
-}
-
-// Stores.
-fn stores(
-    b: &[u8],
-    t: &[u8],
-    code: &[u8],
-    cells: &mut [u32],
-    w: &mut [u32],
-    g: &mut [u8],
-    y: Ground,
-    at: u32,
-    operands: usize,
-    used: u32,
-    op: usize,
-) -> Turn
-    requires { ⌜ Ready (now code) (now cells) (now w) (now g) y at operands × (op ≡ getD (now code) at 0) ⌝ }
-    ensures { λ r. ⌜ Quick (now (b .entry)) (now (t .entry)) (now (code .entry)) y at operands used (now (w .entry)) (now (g .entry)) (now (cells .entry)) (now (w .exit)) (now (g .exit)) (now (cells .exit)) r ⌝ }
-{
-    match op {
-        0x36 => forms::store_int(
-            w,
-            g,
-            place(y, at, operands, used, 2),
-            first(code, at) as u16,
-        ),
-        0x3a => forms::store_ref(
-            w,
-            g,
-            place(y, at, operands, used, 2),
-            first(code, at) as u16,
-        ),
-        0x3b => forms::store_int(w, g, place(y, at, operands, used, 1), 0),
-        0x3c => forms::store_int(w, g, place(y, at, operands, used, 1), 1),
-        0x3d => forms::store_int(w, g, place(y, at, operands, used, 1), 2),
-        0x3e => forms::store_int(w, g, place(y, at, operands, used, 1), 3),
-        0x4b => forms::store_ref(w, g, place(y, at, operands, used, 1), 0),
-        0x4c => forms::store_ref(w, g, place(y, at, operands, used, 1), 1),
-        0x4d => forms::store_ref(w, g, place(y, at, operands, used, 1), 2),
-        0x4e => forms::store_ref(w, g, place(y, at, operands, used, 1), 3),
-        0x4f => memory::iastore(t, kin(y), cells, w, g, place(y, at, operands, used, 1)),
-        0x53 => memory::aastore(t, kin(y), cells, w, g, place(y, at, operands, used, 1)),
-        _ => elsewhere(used),
+        0x99 => forms::if_int(w, g, place(y, at, operands, used, 3), 0, o),
+        0x9a => forms::if_int(w, g, place(y, at, operands, used, 3), 1, o),
+        0x9b => forms::if_int(w, g, place(y, at, operands, used, 3), 2, o),
+        0x9c => forms::if_int(w, g, place(y, at, operands, used, 3), 3, o),
+        0x9d => forms::if_int(w, g, place(y, at, operands, used, 3), 4, o),
+        0x9e => forms::if_int(w, g, place(y, at, operands, used, 3), 5, o),
+        0x9f => forms::if_two(w, g, place(y, at, operands, used, 3), 0, o),
+        0xa0 => forms::if_two(w, g, place(y, at, operands, used, 3), 1, o),
+        0xa1 => forms::if_two(w, g, place(y, at, operands, used, 3), 2, o),
+        0xa2 => forms::if_two(w, g, place(y, at, operands, used, 3), 3, o),
+        0xa3 => forms::if_two(w, g, place(y, at, operands, used, 3), 4, o),
+        0xa4 => forms::if_two(w, g, place(y, at, operands, used, 3), 5, o),
+        0xa7 => forms::jump(w, g, place(y, at, operands, used, 3), o),
+        _ => others(b, t, code, cells, w, g, y, at, operands, used, op),
     }
 }
 
@@ -334,68 +327,12 @@ fn arithmetic(
             first(code, at) as u16,
             decode::spread_byte(second(code, at)),
         ),
-        _ => elsewhere(used),
+        _ => branches(b, t, code, cells, w, g, y, at, operands, used, op),
     }
 }
 
-// Branches.
-fn branches(
-    b: &[u8],
-    t: &[u8],
-    code: &[u8],
-    cells: &mut [u32],
-    w: &mut [u32],
-    g: &mut [u8],
-    y: Ground,
-    at: u32,
-    operands: usize,
-    used: u32,
-    op: usize,
-) -> Turn
-    requires { ⌜ Ready (now code) (now cells) (now w) (now g) y at operands × (op ≡ getD (now code) at 0) ⌝ }
-    ensures { λ r. ⌜ Quick (now (b .entry)) (now (t .entry)) (now (code .entry)) y at operands used (now (w .entry)) (now (g .entry)) (now (cells .entry)) (now (w .exit)) (now (g .exit)) (now (cells .exit)) r ⌝ }
-{
-    let o = decode::target(bytes(code, at));
-    match op {
-        0x99 => forms::if_int(w, g, place(y, at, operands, used, 3), 0, o),
-        0x9a => forms::if_int(w, g, place(y, at, operands, used, 3), 1, o),
-        0x9b => forms::if_int(w, g, place(y, at, operands, used, 3), 2, o),
-        0x9c => forms::if_int(w, g, place(y, at, operands, used, 3), 3, o),
-        0x9d => forms::if_int(w, g, place(y, at, operands, used, 3), 4, o),
-        0x9e => forms::if_int(w, g, place(y, at, operands, used, 3), 5, o),
-        0x9f => forms::if_two(w, g, place(y, at, operands, used, 3), 0, o),
-        0xa0 => forms::if_two(w, g, place(y, at, operands, used, 3), 1, o),
-        0xa1 => forms::if_two(w, g, place(y, at, operands, used, 3), 2, o),
-        0xa2 => forms::if_two(w, g, place(y, at, operands, used, 3), 3, o),
-        0xa3 => forms::if_two(w, g, place(y, at, operands, used, 3), 4, o),
-        0xa4 => forms::if_two(w, g, place(y, at, operands, used, 3), 5, o),
-        0xa5 => memory::if_same(
-            t,
-            kin(y),
-            cells,
-            w,
-            g,
-            place(y, at, operands, used, 3),
-            true,
-            o,
-        ),
-        0xa6 => memory::if_same(
-            t,
-            kin(y),
-            cells,
-            w,
-            g,
-            place(y, at, operands, used, 3),
-            false,
-            o,
-        ),
-        0xa7 => forms::jump(w, g, place(y, at, operands, used, 3), o),
-        _ => elsewhere(used),
-    }
-}
-
-// Fields, lengths, tests for null.
-fn others(
+// Stores, and lengths.
+fn stores(
     b: &[u8],
     t: &[u8],
     code: &[u8],
@@ -412,34 +349,120 @@ fn others(
     ensures { λ r. ⌜ Quick (now (b .entry)) (now (t .entry)) (now (code .entry)) y at operands used (now (w .entry)) (now (g .entry)) (now (cells .entry)) (now (w .exit)) (now (g .exit)) (now (cells .exit)) r ⌝ }
 {
     match op {
-        0xb4 => get_field(b, t, code, cells, w, g, y, at, operands, used),
-        0xb5 => put_field(b, t, code, cells, w, g, y, at, operands, used),
+        0x36 => forms::store_int(
+            w,
+            g,
+            place(y, at, operands, used, 2),
+            first(code, at) as u16,
+        ),
+        0x3a => forms::store_ref(
+            w,
+            g,
+            place(y, at, operands, used, 2),
+            first(code, at) as u16,
+        ),
+        0x3b => forms::store_int(w, g, place(y, at, operands, used, 1), 0),
+        0x3c => forms::store_int(w, g, place(y, at, operands, used, 1), 1),
+        0x3d => forms::store_int(w, g, place(y, at, operands, used, 1), 2),
+        0x3e => forms::store_int(w, g, place(y, at, operands, used, 1), 3),
+        0x4b => forms::store_ref(w, g, place(y, at, operands, used, 1), 0),
+        0x4c => forms::store_ref(w, g, place(y, at, operands, used, 1), 1),
+        0x4d => forms::store_ref(w, g, place(y, at, operands, used, 1), 2),
+        0x4e => forms::store_ref(w, g, place(y, at, operands, used, 1), 3),
+        0x4f => memory::iastore(t, kin(y), cells, w, g, place(y, at, operands, used, 1)),
         0xbe => memory::length(t, kin(y), cells, w, g, place(y, at, operands, used, 1)),
-        0xc6 => memory::if_null(
-            t,
-            kin(y),
-            cells,
-            w,
-            g,
-            place(y, at, operands, used, 3),
-            true,
-            decode::target(bytes(code, at)),
-        ),
-        0xc7 => memory::if_null(
-            t,
-            kin(y),
-            cells,
-            w,
-            g,
-            place(y, at, operands, used, 3),
-            false,
-            decode::target(bytes(code, at)),
-        ),
-        _ => elsewhere(used),
+        _ => arithmetic(b, t, code, cells, w, g, y, at, operands, used, op),
     }
 }
 
-// The instruction at an offset. The groups are listed here so that one jump by the opcode finds both group and line.
+// Loads.
+fn loads(
+    b: &[u8],
+    t: &[u8],
+    code: &[u8],
+    cells: &mut [u32],
+    w: &mut [u32],
+    g: &mut [u8],
+    y: Ground,
+    at: u32,
+    operands: usize,
+    used: u32,
+    op: usize,
+) -> Turn
+    requires { ⌜ Ready (now code) (now cells) (now w) (now g) y at operands × (op ≡ getD (now code) at 0) ⌝ }
+    ensures { λ r. ⌜ Quick (now (b .entry)) (now (t .entry)) (now (code .entry)) y at operands used (now (w .entry)) (now (g .entry)) (now (cells .entry)) (now (w .exit)) (now (g .exit)) (now (cells .exit)) r ⌝ }
+{
+    match op {
+        0x15 => forms::load_int(
+            w,
+            g,
+            place(y, at, operands, used, 2),
+            first(code, at) as u16,
+        ),
+        0x19 => forms::load_ref(
+            w,
+            g,
+            place(y, at, operands, used, 2),
+            first(code, at) as u16,
+        ),
+        0x1a => forms::load_int(w, g, place(y, at, operands, used, 1), 0),
+        0x1b => forms::load_int(w, g, place(y, at, operands, used, 1), 1),
+        0x1c => forms::load_int(w, g, place(y, at, operands, used, 1), 2),
+        0x1d => forms::load_int(w, g, place(y, at, operands, used, 1), 3),
+        0x2a => forms::load_ref(w, g, place(y, at, operands, used, 1), 0),
+        0x2b => forms::load_ref(w, g, place(y, at, operands, used, 1), 1),
+        0x2c => forms::load_ref(w, g, place(y, at, operands, used, 1), 2),
+        0x2d => forms::load_ref(w, g, place(y, at, operands, used, 1), 3),
+        0x2e => memory::iaload(t, kin(y), cells, w, g, place(y, at, operands, used, 1)),
+        0x32 => memory::aaload(t, kin(y), cells, w, g, place(y, at, operands, used, 1)),
+        _ => stores(b, t, code, cells, w, g, y, at, operands, used, op),
+    }
+}
+
+// Constants.
+fn constants(
+    b: &[u8],
+    t: &[u8],
+    code: &[u8],
+    cells: &mut [u32],
+    w: &mut [u32],
+    g: &mut [u8],
+    y: Ground,
+    at: u32,
+    operands: usize,
+    used: u32,
+    op: usize,
+) -> Turn
+    requires { ⌜ Ready (now code) (now cells) (now w) (now g) y at operands × (op ≡ getD (now code) at 0) ⌝ }
+    ensures { λ r. ⌜ Quick (now (b .entry)) (now (t .entry)) (now (code .entry)) y at operands used (now (w .entry)) (now (g .entry)) (now (cells .entry)) (now (w .exit)) (now (g .exit)) (now (cells .exit)) r ⌝ }
+{
+    match op {
+        0x00 => forms::nop(w, g, place(y, at, operands, used, 1)),
+        0x01 => forms::null(w, g, place(y, at, operands, used, 1)),
+        0x02 => forms::constant(w, g, place(y, at, operands, used, 1), 0xffff_ffff),
+        0x03 => forms::constant(w, g, place(y, at, operands, used, 1), 0),
+        0x04 => forms::constant(w, g, place(y, at, operands, used, 1), 1),
+        0x05 => forms::constant(w, g, place(y, at, operands, used, 1), 2),
+        0x06 => forms::constant(w, g, place(y, at, operands, used, 1), 3),
+        0x07 => forms::constant(w, g, place(y, at, operands, used, 1), 4),
+        0x08 => forms::constant(w, g, place(y, at, operands, used, 1), 5),
+        0x10 => forms::constant(
+            w,
+            g,
+            place(y, at, operands, used, 2),
+            decode::spread_byte(first(code, at)),
+        ),
+        0x11 => forms::constant(
+            w,
+            g,
+            place(y, at, operands, used, 3),
+            decode::spread_half(bytes(code, at)),
+        ),
+        _ => loads(b, t, code, cells, w, g, y, at, operands, used, op),
+    }
+}
+
+// The instruction at an offset. Each list hands on what it does not have, so that the compiler makes one jump of all; those with calls come last.
 pub fn turn(
     b: &[u8],
     t: &[u8],
@@ -456,92 +479,5 @@ pub fn turn(
     ensures { λ r. ⌜ Quick (now (b .entry)) (now (t .entry)) (now (code .entry)) y at operands used (now (w .entry)) (now (g .entry)) (now (cells .entry)) (now (w .exit)) (now (g .exit)) (now (cells .exit)) r ⌝ }
 {
     let op = kit::byte(code, at as usize);
-    match op {
-        0x00 | 0x01 | 0x02 | 0x03 | 0x04 | 0x05 | 0x06 | 0x07 | 0x08 | 0x10 | 0x11 => constants(
-            b,
-            t,
-            code,
-            cells,
-            w,
-            g,
-            y,
-            at,
-            operands,
-            used,
-            op,
-        ),
-        0x15 | 0x19 | 0x1a | 0x1b | 0x1c | 0x1d | 0x2a | 0x2b | 0x2c | 0x2d | 0x2e | 0x32 => loads(
-            b,
-            t,
-            code,
-            cells,
-            w,
-            g,
-            y,
-            at,
-            operands,
-            used,
-            op,
-        ),
-        0x36 | 0x3a | 0x3b | 0x3c | 0x3d | 0x3e | 0x4b | 0x4c | 0x4d | 0x4e | 0x4f | 0x53 => stores(
-            b,
-            t,
-            code,
-            cells,
-            w,
-            g,
-            y,
-            at,
-            operands,
-            used,
-            op,
-        ),
-        0x57
-        | 0x59
-        | 0x5a
-        | 0x5f
-        | 0x60
-        | 0x64
-        | 0x68
-        | 0x6c
-        | 0x70
-        | 0x74
-        | 0x78
-        | 0x7a
-        | 0x7c
-        | 0x7e
-        | 0x80
-        | 0x82
-        | 0x84 => arithmetic(b, t, code, cells, w, g, y, at, operands, used, op),
-        0x99
-        | 0x9a
-        | 0x9b
-        | 0x9c
-        | 0x9d
-        | 0x9e
-        | 0x9f
-        | 0xa0
-        | 0xa1
-        | 0xa2
-        | 0xa3
-        | 0xa4
-        | 0xa5
-        | 0xa6
-        | 0xa7 => branches(b, t, code, cells, w, g, y, at, operands, used, op),
-        0xb4 | 0xb5 | 0xbe | 0xc6 | 0xc7 => others(
-            b,
-            t,
-            code,
-            cells,
-            w,
-            g,
-            y,
-            at,
-            operands,
-            used,
-            op,
-        ),
-        0x12 | 0xbc | 0xbd | 0xc0 | 0xc1 => decoded(b, t, code, cells, w, g, y, at, operands, used),
-        _ => elsewhere(used),
-    }
+    constants(b, t, code, cells, w, g, y, at, operands, used, op)
 }

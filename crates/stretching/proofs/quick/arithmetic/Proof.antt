@@ -3,7 +3,7 @@ use native.Mathlib.Omega.{arith}
 use Rattle.rules.specs.Opcodes.{rows, rowIn, rowOf}
 use Rattle.rules.specs.Decoding.{made}
 use Rattle.plain.specs.HeapTurns.{windowed}
-use Rattle.stretching.specs.Quick.{ready-sized, quick-elsewhere, quick-arm}
+use Rattle.stretching.specs.Quick.{ready-sized, quick-arm}
 use borrow.Author.Needs.{needs}
 use Rattle.stretching.proofs.quick.arithmetic.Statement.{statement}
 use Rattle.stretching.proofs.quick.arithmetic.Tie as tie
@@ -122,8 +122,8 @@ spread-byte-requires c κs = tt
 increment-requires : tie.Need-increment-requires
 increment-requires c κs = ready-sized _ _ _ _ _ _ _ _ _ _ (c .before .before .before .before .before .before .before .before .before .before .before .before .before .pre .0) (c .before .before .before .place17 .ensures)
 
-elsewhere-requires : tie.Need-elsewhere-requires
-elsewhere-requires c κs = tt
+branches-requires : tie.Need-branches-requires
+branches-requires c κs = c .before .before .before .before .before .before .before .before .before .before .pre
 
 same-length : tie.Need-same-length
 same-length c = search needs
@@ -295,8 +295,17 @@ returns-17 : tie.Need-returns-17
 unfolding made rowOf rowIn rows
 returns-17 c = quick-arm _ _ _ _ _ _ _ _ _ _ 3 _ _ _ _ _ _ _ 0x84 (sym (c .before .before .before .before .before .before .before .before .before .before .before .before .before .before .before .before .before .before .pre .1) ∙ c .before .before .before .before .before .before .before .before .before .before .before .match .keys17) refl (omega arith) tt (λ P. sym (rw (c .before .before .before .before .before .spread-byte .ensures, c .before .before .before .before .before .before .before .first .ensures, c .before .before .before .before .before .before .second .ensures))) refl (c .before .before .before .before .before .before .before .before .place17 .ensures) (windowed _ _ _ _ _ _ _ _ _ (c .before .before .before .before .increment .ensures))
 
+same-length-35 : tie.Need-same-length-35
+same-length-35 c = search needs
+
+same-length-36 : tie.Need-same-length-36
+same-length-36 c = search needs
+
+same-length-37 : tie.Need-same-length-37
+same-length-37 c = search needs
+
 returns-18 : tie.Need-returns-18
-returns-18 c = quick-elsewhere _ _ _ _ _ _ _ _ _ _ _ (c .elsewhere .ensures .0) (c .elsewhere .ensures .1)
+returns-18 c = c .before .before .before .before .before .before .branches .ensures
 
 pub arithmetic-spec : {M : Type 1} → statement M
-arithmetic-spec = tie.close (tie.spec place-requires pop-requires place-requires-2 dup-requires place-requires-3 dup-under-requires place-requires-4 swap-requires place-requires-5 ibin-requires place-requires-6 ibin-requires-2 place-requires-7 ibin-requires-3 place-requires-8 idiv-requires place-requires-9 idiv-requires-2 place-requires-10 ineg-requires place-requires-11 ibin-requires-4 place-requires-12 ibin-requires-5 place-requires-13 ibin-requires-6 place-requires-14 ibin-requires-7 place-requires-15 ibin-requires-8 place-requires-16 ibin-requires-9 place-requires-17 first-requires cast-increment second-requires spread-byte-requires increment-requires elsewhere-requires same-length same-length-2 returns same-length-3 same-length-4 returns-2 same-length-5 same-length-6 returns-3 same-length-7 same-length-8 returns-4 same-length-9 same-length-10 returns-5 same-length-11 same-length-12 returns-6 same-length-13 same-length-14 returns-7 same-length-15 same-length-16 returns-8 same-length-17 same-length-18 returns-9 same-length-19 same-length-20 returns-10 same-length-21 same-length-22 returns-11 same-length-23 same-length-24 returns-12 same-length-25 same-length-26 returns-13 same-length-27 same-length-28 returns-14 same-length-29 same-length-30 returns-15 same-length-31 same-length-32 returns-16 same-length-33 same-length-34 returns-17 returns-18)
+arithmetic-spec = tie.close (tie.spec place-requires pop-requires place-requires-2 dup-requires place-requires-3 dup-under-requires place-requires-4 swap-requires place-requires-5 ibin-requires place-requires-6 ibin-requires-2 place-requires-7 ibin-requires-3 place-requires-8 idiv-requires place-requires-9 idiv-requires-2 place-requires-10 ineg-requires place-requires-11 ibin-requires-4 place-requires-12 ibin-requires-5 place-requires-13 ibin-requires-6 place-requires-14 ibin-requires-7 place-requires-15 ibin-requires-8 place-requires-16 ibin-requires-9 place-requires-17 first-requires cast-increment second-requires spread-byte-requires increment-requires branches-requires same-length same-length-2 returns same-length-3 same-length-4 returns-2 same-length-5 same-length-6 returns-3 same-length-7 same-length-8 returns-4 same-length-9 same-length-10 returns-5 same-length-11 same-length-12 returns-6 same-length-13 same-length-14 returns-7 same-length-15 same-length-16 returns-8 same-length-17 same-length-18 returns-9 same-length-19 same-length-20 returns-10 same-length-21 same-length-22 returns-11 same-length-23 same-length-24 returns-12 same-length-25 same-length-26 returns-13 same-length-27 same-length-28 returns-14 same-length-29 same-length-30 returns-15 same-length-31 same-length-32 returns-16 same-length-33 same-length-34 returns-17 same-length-35 same-length-36 same-length-37 returns-18)

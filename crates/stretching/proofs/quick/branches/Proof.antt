@@ -3,7 +3,7 @@ use native.Mathlib.Omega.{arith}
 use Rattle.rules.specs.Opcodes.{rows, rowIn, rowOf}
 use Rattle.rules.specs.Decoding.{made}
 use Rattle.plain.specs.HeapTurns.{windowed}
-use Rattle.stretching.specs.Quick.{ready-sized, quick-elsewhere, quick-arm}
+use Rattle.stretching.specs.Quick.{ready-sized, quick-arm}
 use borrow.Author.Needs.{needs}
 use Rattle.stretching.proofs.quick.branches.Statement.{statement}
 use Rattle.stretching.proofs.quick.branches.Tie as tie
@@ -86,32 +86,14 @@ place-requires-12 c κs = omega (arith, c .before .before .before .before .befor
 if-two-requires-6 : tie.Need-if-two-requires-6
 if-two-requires-6 c κs = ready-sized _ _ _ _ _ _ _ _ _ _ (c .before .before .before .before .before .before .before .before .before .before .before .before .pre .0) (c .place12 .ensures)
 
-kin-requires : tie.Need-kin-requires
-kin-requires c κs = tt
-
 place-requires-13 : tie.Need-place-requires-13
-place-requires-13 c κs = omega (arith, c .before .before .before .before .before .before .before .before .before .before .before .before .before .pre .0 .here, c .before .before .before .before .before .before .before .before .before .before .before .before .before .pre .0 .short)
-
-if-same-requires : tie.Need-if-same-requires
-if-same-requires c κs = ready-sized _ _ _ _ _ _ _ _ _ _ (c .before .before .before .before .before .before .before .before .before .before .before .before .before .before .pre .0) (c .place13 .ensures)
-
-kin-requires-2 : tie.Need-kin-requires-2
-kin-requires-2 c κs = tt
-
-place-requires-14 : tie.Need-place-requires-14
-place-requires-14 c κs = omega (arith, c .before .before .before .before .before .before .before .before .before .before .before .before .before .pre .0 .here, c .before .before .before .before .before .before .before .before .before .before .before .before .before .pre .0 .short)
-
-if-same-requires-2 : tie.Need-if-same-requires-2
-if-same-requires-2 c κs = ready-sized _ _ _ _ _ _ _ _ _ _ (c .before .before .before .before .before .before .before .before .before .before .before .before .before .before .pre .0) (c .place14 .ensures)
-
-place-requires-15 : tie.Need-place-requires-15
-place-requires-15 c κs = omega (arith, c .before .before .before .before .before .before .before .before .before .before .before .pre .0 .here, c .before .before .before .before .before .before .before .before .before .before .before .pre .0 .short)
+place-requires-13 c κs = omega (arith, c .before .before .before .before .before .before .before .before .before .before .before .pre .0 .here, c .before .before .before .before .before .before .before .before .before .before .before .pre .0 .short)
 
 jump-requires : tie.Need-jump-requires
-jump-requires c κs = ready-sized _ _ _ _ _ _ _ _ _ _ (c .before .before .before .before .before .before .before .before .before .before .before .before .pre .0) (c .place15 .ensures)
+jump-requires c κs = ready-sized _ _ _ _ _ _ _ _ _ _ (c .before .before .before .before .before .before .before .before .before .before .before .before .pre .0) (c .place13 .ensures)
 
-elsewhere-requires : tie.Need-elsewhere-requires
-elsewhere-requires c κs = tt
+others-requires : tie.Need-others-requires
+others-requires c κs = c .before .before .before .before .before .before .before .before .before .before .before .before .pre
 
 same-length : tie.Need-same-length
 same-length c = search needs
@@ -239,12 +221,12 @@ same-length-25 c = search needs
 same-length-26 : tie.Need-same-length-26
 same-length-26 c = search needs
 
-same-length-27 : tie.Need-same-length-27
-same-length-27 c = search needs
-
 returns-13 : tie.Need-returns-13
 unfolding made rowOf rowIn rows
-returns-13 c = quick-arm _ _ _ _ _ _ _ _ _ _ 3 _ _ _ _ _ _ _ 0xa5 (sym (c .before .before .before .before .before .before .before .before .before .before .before .before .before .before .before .pre .1) ∙ c .before .before .before .before .before .before .match .keys13) refl (omega arith) (omega (arith, c .before .before .before .before .before .before .before .target .ensures)) (λ P. sym (rw (c .before .before .before .before .before .before .before .target .ensures, c .before .before .before .before .before .before .before .before .bytes .ensures))) (c .before .before .before .before .before .kin .ensures) (c .before .place13 .ensures) (c .if-same .ensures)
+returns-13 c = quick-arm _ _ _ _ _ _ _ _ _ _ 3 _ _ _ _ _ _ _ 0xa7 (sym (c .before .before .before .before .before .before .before .before .before .before .before .before .before .pre .1) ∙ c .before .before .before .before .match .keys13) refl (omega arith) (omega (arith, c .before .before .before .before .before .target .ensures)) (λ P. sym (rw (c .before .before .before .before .before .target .ensures, c .before .before .before .before .before .before .bytes .ensures))) refl (c .before .place13 .ensures) (windowed _ _ _ _ _ _ _ _ _ (c .jump .ensures))
+
+same-length-27 : tie.Need-same-length-27
+same-length-27 c = search needs
 
 same-length-28 : tie.Need-same-length-28
 same-length-28 c = search needs
@@ -252,25 +234,8 @@ same-length-28 c = search needs
 same-length-29 : tie.Need-same-length-29
 same-length-29 c = search needs
 
-same-length-30 : tie.Need-same-length-30
-same-length-30 c = search needs
-
 returns-14 : tie.Need-returns-14
-unfolding made rowOf rowIn rows
-returns-14 c = quick-arm _ _ _ _ _ _ _ _ _ _ 3 _ _ _ _ _ _ _ 0xa6 (sym (c .before .before .before .before .before .before .before .before .before .before .before .before .before .before .before .pre .1) ∙ c .before .before .before .before .before .before .match .keys14) refl (omega arith) (omega (arith, c .before .before .before .before .before .before .before .target .ensures)) (λ P. sym (rw (c .before .before .before .before .before .before .before .target .ensures, c .before .before .before .before .before .before .before .before .bytes .ensures))) (c .before .before .before .before .before .kin2 .ensures) (c .before .place14 .ensures) (c .if-same2 .ensures)
-
-same-length-31 : tie.Need-same-length-31
-same-length-31 c = search needs
-
-same-length-32 : tie.Need-same-length-32
-same-length-32 c = search needs
-
-returns-15 : tie.Need-returns-15
-unfolding made rowOf rowIn rows
-returns-15 c = quick-arm _ _ _ _ _ _ _ _ _ _ 3 _ _ _ _ _ _ _ 0xa7 (sym (c .before .before .before .before .before .before .before .before .before .before .before .before .before .pre .1) ∙ c .before .before .before .before .match .keys15) refl (omega arith) (omega (arith, c .before .before .before .before .before .target .ensures)) (λ P. sym (rw (c .before .before .before .before .before .target .ensures, c .before .before .before .before .before .before .bytes .ensures))) refl (c .before .place15 .ensures) (windowed _ _ _ _ _ _ _ _ _ (c .jump .ensures))
-
-returns-16 : tie.Need-returns-16
-returns-16 c = quick-elsewhere _ _ _ _ _ _ _ _ _ _ _ (c .elsewhere .ensures .0) (c .elsewhere .ensures .1)
+returns-14 c = c .before .before .before .before .before .before .others .ensures
 
 pub branches-spec : {M : Type 1} → statement M
-branches-spec = tie.close (tie.spec bytes-requires target-requires place-requires if-int-requires place-requires-2 if-int-requires-2 place-requires-3 if-int-requires-3 place-requires-4 if-int-requires-4 place-requires-5 if-int-requires-5 place-requires-6 if-int-requires-6 place-requires-7 if-two-requires place-requires-8 if-two-requires-2 place-requires-9 if-two-requires-3 place-requires-10 if-two-requires-4 place-requires-11 if-two-requires-5 place-requires-12 if-two-requires-6 kin-requires place-requires-13 if-same-requires kin-requires-2 place-requires-14 if-same-requires-2 place-requires-15 jump-requires elsewhere-requires same-length same-length-2 returns same-length-3 same-length-4 returns-2 same-length-5 same-length-6 returns-3 same-length-7 same-length-8 returns-4 same-length-9 same-length-10 returns-5 same-length-11 same-length-12 returns-6 same-length-13 same-length-14 returns-7 same-length-15 same-length-16 returns-8 same-length-17 same-length-18 returns-9 same-length-19 same-length-20 returns-10 same-length-21 same-length-22 returns-11 same-length-23 same-length-24 returns-12 same-length-25 same-length-26 same-length-27 returns-13 same-length-28 same-length-29 same-length-30 returns-14 same-length-31 same-length-32 returns-15 returns-16)
+branches-spec = tie.close (tie.spec bytes-requires target-requires place-requires if-int-requires place-requires-2 if-int-requires-2 place-requires-3 if-int-requires-3 place-requires-4 if-int-requires-4 place-requires-5 if-int-requires-5 place-requires-6 if-int-requires-6 place-requires-7 if-two-requires place-requires-8 if-two-requires-2 place-requires-9 if-two-requires-3 place-requires-10 if-two-requires-4 place-requires-11 if-two-requires-5 place-requires-12 if-two-requires-6 place-requires-13 jump-requires others-requires same-length same-length-2 returns same-length-3 same-length-4 returns-2 same-length-5 same-length-6 returns-3 same-length-7 same-length-8 returns-4 same-length-9 same-length-10 returns-5 same-length-11 same-length-12 returns-6 same-length-13 same-length-14 returns-7 same-length-15 same-length-16 returns-8 same-length-17 same-length-18 returns-9 same-length-19 same-length-20 returns-10 same-length-21 same-length-22 returns-11 same-length-23 same-length-24 returns-12 same-length-25 same-length-26 returns-13 same-length-27 same-length-28 same-length-29 returns-14)

@@ -3,7 +3,7 @@ use native.Mathlib.Omega.{arith}
 use Rattle.rules.specs.Opcodes.{rows, rowIn, rowOf}
 use Rattle.rules.specs.Decoding.{made}
 use Rattle.plain.specs.HeapTurns.{windowed}
-use Rattle.stretching.specs.Quick.{ready-sized, quick-elsewhere, quick-arm}
+use Rattle.stretching.specs.Quick.{ready-sized, quick-arm}
 use borrow.Author.Needs.{needs}
 use Rattle.stretching.proofs.quick.constants.Statement.{statement}
 use Rattle.stretching.proofs.quick.constants.Tie as tie
@@ -86,8 +86,8 @@ spread-half-requires c κs = tt
 constant-requires-9 : tie.Need-constant-requires-9
 constant-requires-9 c κs = ready-sized _ _ _ _ _ _ _ _ _ _ (c .before .before .before .before .before .before .before .before .before .before .before .before .pre .0) (c .before .before .place11 .ensures)
 
-elsewhere-requires : tie.Need-elsewhere-requires
-elsewhere-requires c κs = tt
+loads-requires : tie.Need-loads-requires
+loads-requires c κs = c .before .before .before .before .before .before .before .before .before .before .pre
 
 same-length : tie.Need-same-length
 same-length c = search needs
@@ -199,8 +199,17 @@ returns-11 : tie.Need-returns-11
 unfolding made rowOf rowIn rows
 returns-11 c = quick-arm _ _ _ _ _ _ _ _ _ _ 3 _ _ _ _ _ _ _ 0x11 (sym (c .before .before .before .before .before .before .before .before .before .before .before .before .before .before .before .before .before .pre .1) ∙ c .before .before .before .before .before .before .before .before .before .before .match .keys11) refl (omega arith) tt (λ P. sym (rw (c .before .before .before .before .before .spread-half .ensures, c .before .before .before .before .before .before .bytes .ensures))) refl (c .before .before .before .before .before .before .before .place11 .ensures) (windowed _ _ _ _ _ _ _ _ _ (c .before .before .before .before .constant9 .ensures))
 
+same-length-23 : tie.Need-same-length-23
+same-length-23 c = search needs
+
+same-length-24 : tie.Need-same-length-24
+same-length-24 c = search needs
+
+same-length-25 : tie.Need-same-length-25
+same-length-25 c = search needs
+
 returns-12 : tie.Need-returns-12
-returns-12 c = quick-elsewhere _ _ _ _ _ _ _ _ _ _ _ (c .elsewhere .ensures .0) (c .elsewhere .ensures .1)
+returns-12 c = c .before .before .before .before .before .before .loads .ensures
 
 pub constants-spec : {M : Type 1} → statement M
-constants-spec = tie.close (tie.spec place-requires nop-requires place-requires-2 null-requires place-requires-3 constant-requires place-requires-4 constant-requires-2 place-requires-5 constant-requires-3 place-requires-6 constant-requires-4 place-requires-7 constant-requires-5 place-requires-8 constant-requires-6 place-requires-9 constant-requires-7 place-requires-10 first-requires spread-byte-requires constant-requires-8 place-requires-11 bytes-requires spread-half-requires constant-requires-9 elsewhere-requires same-length same-length-2 returns same-length-3 same-length-4 returns-2 same-length-5 same-length-6 returns-3 same-length-7 same-length-8 returns-4 same-length-9 same-length-10 returns-5 same-length-11 same-length-12 returns-6 same-length-13 same-length-14 returns-7 same-length-15 same-length-16 returns-8 same-length-17 same-length-18 returns-9 same-length-19 same-length-20 returns-10 same-length-21 same-length-22 returns-11 returns-12)
+constants-spec = tie.close (tie.spec place-requires nop-requires place-requires-2 null-requires place-requires-3 constant-requires place-requires-4 constant-requires-2 place-requires-5 constant-requires-3 place-requires-6 constant-requires-4 place-requires-7 constant-requires-5 place-requires-8 constant-requires-6 place-requires-9 constant-requires-7 place-requires-10 first-requires spread-byte-requires constant-requires-8 place-requires-11 bytes-requires spread-half-requires constant-requires-9 loads-requires same-length same-length-2 returns same-length-3 same-length-4 returns-2 same-length-5 same-length-6 returns-3 same-length-7 same-length-8 returns-4 same-length-9 same-length-10 returns-5 same-length-11 same-length-12 returns-6 same-length-13 same-length-14 returns-7 same-length-15 same-length-16 returns-8 same-length-17 same-length-18 returns-9 same-length-19 same-length-20 returns-10 same-length-21 same-length-22 returns-11 same-length-23 same-length-24 same-length-25 returns-12)

@@ -3,7 +3,7 @@ use native.Mathlib.Omega.{arith}
 use Rattle.rules.specs.Opcodes.{rows, rowIn, rowOf}
 use Rattle.rules.specs.Decoding.{made}
 use Rattle.plain.specs.HeapTurns.{windowed}
-use Rattle.stretching.specs.Quick.{ready-sized, quick-elsewhere, quick-arm}
+use Rattle.stretching.specs.Quick.{ready-sized, quick-arm}
 use borrow.Author.Needs.{needs}
 use Rattle.stretching.proofs.quick.stores.Statement.{statement}
 use Rattle.stretching.proofs.quick.stores.Tie as tie
@@ -95,11 +95,11 @@ kin-requires-2 c κs = tt
 place-requires-12 : tie.Need-place-requires-12
 place-requires-12 c κs = omega (arith, c .before .before .before .before .before .before .before .before .before .before .before .pre .0 .here, c .before .before .before .before .before .before .before .before .before .before .before .pre .0 .short)
 
-aastore-requires : tie.Need-aastore-requires
-aastore-requires c κs = (ready-sized _ _ _ _ _ _ _ _ _ _ (c .before .before .before .before .before .before .before .before .before .before .before .before .pre .0) (c .place12 .ensures), c .before .before .before .before .before .before .before .before .before .before .before .before .pre .0 .size)
+length-requires : tie.Need-length-requires
+length-requires c κs = ready-sized _ _ _ _ _ _ _ _ _ _ (c .before .before .before .before .before .before .before .before .before .before .before .before .pre .0) (c .place12 .ensures)
 
-elsewhere-requires : tie.Need-elsewhere-requires
-elsewhere-requires c κs = tt
+arithmetic-requires : tie.Need-arithmetic-requires
+arithmetic-requires c κs = c .before .before .before .before .before .before .before .before .before .before .pre
 
 same-length : tie.Need-same-length
 same-length c = search needs
@@ -225,10 +225,19 @@ same-length-26 c = search needs
 
 returns-12 : tie.Need-returns-12
 unfolding made rowOf rowIn rows
-returns-12 c = quick-arm _ _ _ _ _ _ _ _ _ _ 1 _ _ _ _ _ _ _ 0x53 (sym (c .before .before .before .before .before .before .before .before .before .before .before .before .before .before .before .pre .1) ∙ c .before .before .before .before .before .before .before .before .match .keys12) refl (omega arith) tt (λ P. refl) (c .before .before .before .before .before .before .before .kin2 .ensures) (c .before .before .before .place12 .ensures) (c .before .before .aastore .ensures)
+returns-12 c = quick-arm _ _ _ _ _ _ _ _ _ _ 1 _ _ _ _ _ _ _ 0xbe (sym (c .before .before .before .before .before .before .before .before .before .before .before .before .before .before .before .before .before .pre .1) ∙ c .before .before .before .before .before .before .before .before .before .before .match .keys12) refl (omega arith) tt (λ P. refl) (c .before .before .before .before .before .before .before .before .before .kin2 .ensures) (c .before .before .before .before .before .place12 .ensures) (c .before .before .before .before .length .ensures)
+
+same-length-27 : tie.Need-same-length-27
+same-length-27 c = search needs
+
+same-length-28 : tie.Need-same-length-28
+same-length-28 c = search needs
+
+same-length-29 : tie.Need-same-length-29
+same-length-29 c = search needs
 
 returns-13 : tie.Need-returns-13
-returns-13 c = quick-elsewhere _ _ _ _ _ _ _ _ _ _ _ (c .elsewhere .ensures .0) (c .elsewhere .ensures .1)
+returns-13 c = c .before .before .before .before .before .before .arithmetic .ensures
 
 pub stores-spec : {M : Type 1} → statement M
-stores-spec = tie.close (tie.spec place-requires first-requires cast-store-int store-int-requires place-requires-2 first-requires-2 cast-store-ref store-ref-requires place-requires-3 store-int-requires-2 place-requires-4 store-int-requires-3 place-requires-5 store-int-requires-4 place-requires-6 store-int-requires-5 place-requires-7 store-ref-requires-2 place-requires-8 store-ref-requires-3 place-requires-9 store-ref-requires-4 place-requires-10 store-ref-requires-5 kin-requires place-requires-11 iastore-requires kin-requires-2 place-requires-12 aastore-requires elsewhere-requires same-length same-length-2 returns same-length-3 same-length-4 returns-2 same-length-5 same-length-6 returns-3 same-length-7 same-length-8 returns-4 same-length-9 same-length-10 returns-5 same-length-11 same-length-12 returns-6 same-length-13 same-length-14 returns-7 same-length-15 same-length-16 returns-8 same-length-17 same-length-18 returns-9 same-length-19 same-length-20 returns-10 same-length-21 same-length-22 same-length-23 returns-11 same-length-24 same-length-25 same-length-26 returns-12 returns-13)
+stores-spec = tie.close (tie.spec place-requires first-requires cast-store-int store-int-requires place-requires-2 first-requires-2 cast-store-ref store-ref-requires place-requires-3 store-int-requires-2 place-requires-4 store-int-requires-3 place-requires-5 store-int-requires-4 place-requires-6 store-int-requires-5 place-requires-7 store-ref-requires-2 place-requires-8 store-ref-requires-3 place-requires-9 store-ref-requires-4 place-requires-10 store-ref-requires-5 kin-requires place-requires-11 iastore-requires kin-requires-2 place-requires-12 length-requires arithmetic-requires same-length same-length-2 returns same-length-3 same-length-4 returns-2 same-length-5 same-length-6 returns-3 same-length-7 same-length-8 returns-4 same-length-9 same-length-10 returns-5 same-length-11 same-length-12 returns-6 same-length-13 same-length-14 returns-7 same-length-15 same-length-16 returns-8 same-length-17 same-length-18 returns-9 same-length-19 same-length-20 returns-10 same-length-21 same-length-22 same-length-23 returns-11 same-length-24 same-length-25 same-length-26 returns-12 same-length-27 same-length-28 same-length-29 returns-13)
