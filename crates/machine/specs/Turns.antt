@@ -27,7 +27,6 @@ use Rattle.running.specs.Throws.{OfBundle, Shaped}
 use Rattle.stepping.specs.Stepping.{movedOf, Stepped}
 use Rattle.stepping.specs.declared.moves.Moved.{Moved}
 use Rattle.stretching.specs.Stretch.{run-turn}
-use Rattle.machine.specs.declared.turns.Turned.{Turned}
 use Rattle.machine.specs.declared.turns.Ran as code
 
 -- ---- where the running call's method stands
@@ -44,9 +43,18 @@ site-after b n t s g cells d k used t′ s′ g′ cells′ r x y e h =
     let z = standing-shaped b n t′ s′ g′ (r .depth) (r .call) (y .stands e) in
     (z .0, z .1, subst (Located b n (k .class - 11) (k .method) x) (sym (y .front)) h)
 
-pub record Turns (b : List ℕ) (n : ℕ) (t s g cells : List ℕ) (d : ℕ) (k : Frame) (used : ℕ) (t′ s′ g′ cells′ : List ℕ) (r : Turned) : Type 0 where
-  pub stepped : Stepped b n t s g cells d k used t′ s′ g′ cells′ (r .moved)
-  pub sited : r .moved .end ≡ 0 → SiteOf b n t′ (r .moved .call) (r .site)
+-- a call of the same method
+same-site : (b : List ℕ) (n : ℕ) (t : List ℕ) (k j : Frame) (x : Site) → (j .class ≡ k .class) × (j .method ≡ k .method) → SiteOf b n t k x → SiteOf b n t j x
+same-site b n t k j x e h = rw (e .0, e .1) h
+
+-- where the call after a step stands: found, or the same
+module _ (b : List ℕ) (n : ℕ) (t s g cells : List ℕ) (d : ℕ) (k : Frame) (used : ℕ) (t′ s′ g′ cells′ : List ℕ) (r : Moved) (x : Site)
+    (y : Stepped b n t s g cells d k used t′ s′ g′ cells′ r) (e : r .end ≡ 0) (h : SiteOf b n t k x) (z : Site) where
+  pub site-found : (w : Site) → z ≡ w → SiteOf b n t′ (r .call) w → SiteOf b n t′ (r .call) z
+  site-found w q l = subst (SiteOf b n t′ (r .call)) (sym q) l
+
+  pub site-stays : z ≡ x → (r .call .class ≡ k .class) × (r .call .method ≡ k .method) → SiteOf b n t′ (r .call) z
+  site-stays q m = subst (SiteOf b n t′ (r .call)) (sym q) (same-site b n t′ k (r .call) x m (site-after b n t s g cells d k used t′ s′ g′ cells′ r x y e h .2))
 
 -- ---- a run's answer
 pub record Ends (R : Ran) (cells : List ℕ) (r : code.Ran) : Type 0 where
@@ -180,5 +188,6 @@ module _ (b : List ℕ) (n : ℕ) (t₀ s₀ g₀ cells₀ : List ℕ) (d₀ : �
       let y = going-closed b n _ budget left used t s g cells d k h l t′ s′ g′ cells′ r x e q c in
       record { is = y .0; most = y .1 }
 
-  pub runs-out : left ≤ 0 → RunsOn b n t₀ s₀ g₀ cells₀ d₀ k₀ used₀ budget cells (record { end = 3; value = 0; count = budget; used = used })
-  runs-out l = record { is = going-out b n _ budget left used t s g cells d k h l; most = omega arith }
+  pub runs-out : left ≤ 0 → (q : code.Ran) → q ≡ record { end = 3; value = 0; count = budget; used = used } → RunsOn b n t₀ s₀ g₀ cells₀ d₀ k₀ used₀ budget cells q
+  runs-out l q e =
+      subst (RunsOn b n t₀ s₀ g₀ cells₀ d₀ k₀ used₀ budget cells) (sym e) (record { is = going-out b n _ budget left used t s g cells d k h l; most = omega arith })

@@ -1,12 +1,13 @@
 // Steps until an end or until the budget is spent.
 ghost use mathlib.Core.Path.{_≡_};
+ghost use mathlib.Core.Bool.{true};
 ghost use Prim.Native.Nat.{_+_, _<_, _≤_, _^_};
 ghost use lib.ListN.{length};
 ghost use Rattle.classfiles.specs.Limits.{maxHeap};
 ghost use Rattle.running.specs.Standing.{Standing};
 ghost use Rattle.running.specs.Dispatching.{Dispatch};
-ghost use Rattle.machine.specs.Onward.{Onward, Advances};
-ghost use Rattle.machine.specs.Turns.{closing, SiteOf, Turns, RunsOn};
+ghost use Rattle.machine.specs.Onward.{Onward};
+ghost use Rattle.machine.specs.Turns.{closing, SiteOf, RunsOn};
 use plain::frames::Frame;
 use rules::site::Site;
 use running::landing;
@@ -43,35 +44,15 @@ fn closed(r: Moved, count: u32) -> Ran
     }
 }
 
-// What a step comes to, and where the method of the call after it stands.
-pub struct Turned {
-    pub moved: Moved,
-    pub site: Site,
-}
-
-// The instruction that call k at depth d stands at, of the method at x.
-fn turn(
-    b: &[u8],
-    t: &mut [u8],
-    cells: &mut [u32],
-    s: &mut [u32],
-    g: &mut [u8],
-    n: usize,
-    x: Site,
-    d: usize,
-    k: Frame,
-    used: u32,
-) -> Turned
-    requires { ⌜ Standing (now b) n (now t) (now s) (now g) d k × Dispatch (now b) n (now t) × (length (now cells) ≤ maxHeap) × SiteOf (now b) n (now t) k x ⌝ }
-    ensures { λ r. ⌜ Turns (now (b .entry)) n (now (t .entry)) (now (s .entry)) (now (g .entry)) (now (cells .entry)) d k used (now (t .exit)) (now (s .exit)) (now (g .exit)) (now (cells .exit)) r ⌝ }
+fn out_of_steps(budget: u32, used: u32) -> Ran
+    ensures { λ q. ⌜ q ≡ record { end = 3; value = 0; count = budget; used = used } ⌝ }
 {
-    let m = step::step_at(b, t, cells, s, g, n, x, d, k, used);
-    let after = m.call;
-    if m.end != 0 {
-        return Turned { moved: m, site: x };
+    Ran {
+        end: 3,
+        value: 0,
+        count: budget,
+        used,
     }
-    let site = step::site_after(b, t, n, x, k, after);
-    Turned { moved: m, site }
 }
 
 // Where a stretch has come to in the call that is running, and how many steps are left.
@@ -114,54 +95,14 @@ fn onward(
     }
 }
 
-// What a stretch and the step behind it come to, with the steps that were left before that step; 3 is the end of a budget.
-pub struct Advanced {
-    pub moved: Moved,
-    pub site: Site,
-    pub left: u32,
-}
-
-// As far as instructions stay in the window, and one step more.
-fn advance(
-    b: &[u8],
-    t: &mut [u8],
-    cells: &mut [u32],
-    s: &mut [u32],
-    g: &mut [u8],
-    n: usize,
-    x: Site,
-    d: usize,
-    k: Frame,
-    used: u32,
-    left: u32,
-) -> Advanced
-    requires { ⌜ Standing (now b) n (now t) (now s) (now g) d k × Dispatch (now b) n (now t) × (length (now cells) ≤ maxHeap) × SiteOf (now b) n (now t) k x ⌝ }
-    ensures { λ r. ⌜ Advances (now (b .entry)) n (now (t .entry)) (now (s .entry)) (now (g .entry)) (now (cells .entry)) d k used left (now (t .exit)) (now (s .exit)) (now (g .exit)) (now (cells .exit)) r ⌝ }
+// Whether the calls k and j are of one method.
+fn same_method(k: Frame, j: Frame) -> bool
+    ensures { λ r. ⌜ (r ≡ true → (j .class ≡ k .class) × (j .method ≡ k .method)) ⌝ }
 {
-    let p = onward(b, t, cells, s, g, n, x, d, k, used, left);
-    let here = p.call;
-    if p.left == 0 {
-        let moved = Moved {
-            end: 3,
-            value: 0,
-            depth: d,
-            call: here,
-            used: p.used,
-        };
-        return Advanced {
-            moved,
-            site: x,
-            left: 0,
-        };
+    if j.class == k.class {
+        return j.method == k.method;
     }
-    let a = turn(b, t, cells, s, g, n, x, d, here, p.used);
-    let moved = a.moved;
-    let site = a.site;
-    Advanced {
-        moved,
-        site,
-        left: p.left,
-    }
+    false
 }
 
 // At most `budget` steps from the call k at depth d on, whose method stands at x.
@@ -187,25 +128,25 @@ fn run_from(
     let mut used = from;
     let mut site = x;
     while 0 < left {
-        let a = advance(b, t, cells, s, g, n, site, depth, call, used, left);
-        let r = a.moved;
-        let next = r.call;
-        let there = a.site;
-        if r.end != 0 {
-            return closed(r, budget - a.left);
+        let p = onward(b, t, cells, s, g, n, site, depth, call, used, left);
+        let here = p.call;
+        if p.left == 0 {
+            return out_of_steps(budget, p.used);
         }
-        site = there;
-        depth = r.depth;
+        let m = step::step_at(b, t, cells, s, g, n, site, depth, here, p.used);
+        let next = m.call;
+        if m.end != 0 {
+            return closed(m, budget - p.left);
+        }
+        if !same_method(here, next) {
+            site = landing::site_of(b, t, n, next);
+        }
+        depth = m.depth;
         call = next;
-        used = r.used;
-        left = a.left - 1;
+        used = m.used;
+        left = p.left - 1;
     }
-    Ran {
-        end: 3,
-        value: 0,
-        count: budget,
-        used,
-    }
+    out_of_steps(budget, used)
 }
 
 // At most `budget` steps from the call k at depth d on.

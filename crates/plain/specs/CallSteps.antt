@@ -67,7 +67,7 @@ module _ (t s g : List ℕ) (a d : ℕ) (k : Frame) (n : ℕ) (into : Frame) whe
   }
 
   pub enter-on : (t′ s′ g′ : List ℕ) → d < 63 → k .operands + n ≤ 32 → into .locals ≤ 32 → into .offset ≡ 0 → into .operands ≡ 0
-      → Saved t t′ a d k → Fresh s s′ d (k .operands) n → Fresh g g′ d (k .operands) n
+      → Saved t t′ a d k → Fresh s s′ d (k .operands) n (into .locals) → Fresh g g′ d (k .operands) n (into .locals)
       → Enters t s g t′ s′ g′ a d k n into (record { end = 0; depth = d + 1; call = into })
   unfolding enter opsOf
   enter-on t′ s′ g′ h b l o z v p q =
@@ -87,7 +87,7 @@ module _ (t s g : List ℕ) (a d : ℕ) (k : Frame) (n : ℕ) (into : Frame) whe
           y .self,
           y .locals,
           ← m,
-          new-locals s s′ g g′ d (k .operands) n b p q (body (method P (into .class) (into .method)) .maxLocals) (rw m l),
+          new-locals s s′ g g′ d (k .operands) n (into .locals) b l p q (body (method P (into .class) (into .method)) .maxLocals) (omega (arith, m)),
         );
         on = λ q. (refl, refl, v);
         kept = λ q. absurd (q refl);

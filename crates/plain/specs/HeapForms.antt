@@ -4,9 +4,9 @@ use mathlib.Core.Path.{_≡_, refl, sym, ap, subst, _∙_}
 use mathlib.Core.Bool.{Bool, true, false, cond, not, Bool·beq}
 use mathlib.Core.List.{List, [], _∷_}
 use native.Mathlib.Omega.{arith}
-use borrow.Author.Tests.{le-leb, lt-ltb, le-ltb}
+use borrow.Author.Tests.{le-leb, lt-ltb, le-ltb, ne-eqb}
 use lib.Dec.{eqb, ltb, leb}
-use lib.ListN.{length, getD, set}
+use lib.ListN.{length, getD}
 use Rattle.reader.specs.BuiltIns.{object, arrayStore, classCast, arrayIndex, negativeSize, nullPointer}
 use Rattle.classfiles.specs.Descriptors.{Ref, cls, arr, Desc, dref}
 use Rattle.reader.specs.Program.{Program, layout}
@@ -14,14 +14,14 @@ use Rattle.rules.specs.Instruction.{FieldRef, arraylength, iaload, aaload, iast
 use Rattle.rules.specs.Types.{isDint, refFits}
 use Rattle.rules.specs.Ancestry.{lineage, Parents}
 use Rattle.plain.specs.Integers.{negative}
-use Rattle.plain.specs.Heap.{Heap, heap, Val, empty, num, ref, cell, typeAt, elementAt, descOf, refOf, store, toCell, fromCell, isNum, valueFits}
+use Rattle.plain.specs.Heap.{Heap, heap, Val, empty, num, ref, cell, typeAt, readyAt, elementAt, descOf, refOf, store, toCell, fromCell, isNum, valueFits}
 use Rattle.plain.specs.Machine.{stuck, Result, stopped, Here, only, popAny, popInt, withInt, withObject, withElement, push, pushOn, branch, fault, receiver}
 use Rattle.plain.specs.Step.{objectDesc, truth, element, load, makeArray, make, getField, putField, execute}
 use Rattle.plain.specs.Objects.{usable, receiver-by, element-by, object-by, fits-here, type-here, usable-here}
 use Rattle.plain.specs.Windows.{valAt, opsOf, Stands, length-ops, pushing, choosing, either, faulting}
 use Rattle.plain.specs.WindowForms.{doing, any-by}
-use Rattle.plain.specs.HeapTurns.{Steps, As, guarded, writing, making, guard-not, guard-so, if-zero, if-some, either-yes, either-no, steps-fault}
-use Rattle.plain.specs.Turns.{untrue, holds-so, num-as}
+use Rattle.plain.specs.HeapTurns.{Steps, As, guarded, writing, making, guard-not, guard-so, if-zero, if-some, either-yes, either-no, steps-fault, likewise}
+use Rattle.plain.specs.Turns.{untrue, holds-so}
 use Rattle.plain.specs.declared.window.Place.{Place}
 use Rattle.plain.specs.declared.window.Turn.{Turn}
 
@@ -93,10 +93,32 @@ sizeIn cells v = getD cells (headOf v + 2) 0
 abbrev pub elementOf : List ℕ → Val → Desc
 elementOf cells v = descOf (baseIn cells v) (depthIn cells v - 1)
 
+-- an array
+unfoldable pub arraying : Program → List ℕ → Val → (Program → Here → Result) → Program → Here → Result
+arraying L cells v rest = reaching L cells (cls object) v (guarded (ltb 0 (depthIn cells v)) rest)
+
+-- every array is an Object, so that one is found without a look at parents
+abbrev ready-array : List ℕ → Val → (Program → Here → Result) → Program → Here → Result
+ready-array cells v rest = guarded (usable (heap cells 0) v) (either (eqb (toCell v) 0) (faulting nullPointer) (guarded (ltb 0 (depthIn cells v)) rest))
+
+array-by : (L : Program) (cells : List ℕ) (v : Val) (rest : Program → Here → Result) (P : Program) (x : Here) → arraying L cells v rest P x ≡ ready-array cells v rest P x
+unfolding arraying reaching guarded either faulting typeAt refFits
+array-by L cells empty rest P x = refl
+array-by L cells (num a) rest P x = refl
+array-by L cells (ref zero) rest P x = refl
+array-by L cells (ref (suc a)) rest P x =
+    let e : suc a - 1 ≡ a = omega arith in
+    let z : eqb (suc a) 0 ≡ false = ne-eqb (suc a) 0 (λ q. omega arith) in
+    rw (z, e) (go (readyAt (heap cells 0) a) (getD cells a 0) (getD cells (a + 1) 0))
+  where
+    go : (t : Bool) (b d : ℕ) → only (cond t (refFits L (refOf b d) (cls object)) false) (only (ltb 0 d) (rest P x)) ≡ only t (only (ltb 0 d) (rest P x))
+    go true b zero = stop (refFits L (cls b) (cls object))
+    go true b (suc d) = refl
+    go false b d = refl
+
 unfoldable pub indexing : Program → List ℕ → Bool → Val → ℕ → (Program → Here → Result) → Program → Here → Result
 indexing L cells ints v i rest =
-    reaching L cells (cls object) v
-    (guarded (ltb 0 (depthIn cells v)) (guarded (Bool·beq ints (isDint (elementOf cells v))) (either (ltb i (sizeIn cells v)) rest (faulting arrayIndex))))
+    arraying L cells v (guarded (Bool·beq ints (isDint (elementOf cells v))) (either (ltb i (sizeIn cells v)) rest (faulting arrayIndex)))
 
 module _ (t : List ℕ) (a m : ℕ) (c : Place) (w g cells : List ℕ) (P : Program) (x : Here) (p : Parents P t a m) (s : Stands P x c w g cells) where
   fits-now : (D : Desc) (v : Val) → valueFits P (x .heap) D v ≡ valueFits (lineage t a m) (heap cells 0) D v
@@ -108,7 +130,7 @@ module _ (t : List ℕ) (a m : ℕ) (c : Place) (w g cells : List ℕ) (P : Prog
 
   pub index-now : (ints : Bool) (v : Val) (i : ℕ) (k : Desc → ℕ → Result) (rest : Program → Here → Result)
       → k (elementOf cells v) (elementAt (headOf v) i) ≡ rest P x → element P x ints v i k ≡ indexing (lineage t a m) cells ints v i rest P x
-  unfolding element indexing guarded either faulting typeAt
+  unfolding element indexing arraying guarded either faulting typeAt
   index-now ints v i k rest e =
       reach-now (cls object) v (λ b. withElement (typeAt (x .heap) b) λ d. only (Bool·beq ints (isDint d)) (cond (ltb i (getD (x .heap .cells) (b + 2) 0)) (k d (elementAt b i)) (fault P x arrayIndex)))
       (guarded (ltb 0 (depthIn cells v)) (guarded (Bool·beq ints (isDint (elementOf cells v))) (either (ltb i (sizeIn cells v)) rest (faulting arrayIndex))))
@@ -118,6 +140,26 @@ module _ (t : List ℕ) (a m : ℕ) (c : Place) (w g cells : List ℕ) (P : Prog
 pub record Checked (K : Program → Type 0) (c : Place) (cells : List ℕ) (r : Turn) (chain : (Program → Here → Result) → Program → Here → Result) : Type 0 where
   pub refused : (r .end ≡ 0 → ⊥) → (w g : List ℕ) (rest : Program → Here → Result) → Steps K c w g cells w g cells r (chain rest)
   pub passed : r .end ≡ 0 → (w g w′ g′ cells′ : List ℕ) (q : Turn) (rest : Program → Here → Result) → Steps K c w g cells w′ g′ cells′ q rest → Steps K c w g cells w′ g′ cells′ q (chain rest)
+
+-- ---- what calls gave, of the reference n
+module _ (cells : List ℕ) (r n k : ℕ) where
+  pub cell-as : (i : ℕ) → r ≡ getD cells (elementAt (n - 1) i) 0 → n ≡ k → r ≡ getD cells (elementAt (k - 1) i) 0
+  cell-as i e f = cc
+
+  pub size-as : r ≡ getD cells (n - 1 + 2) 0 → n ≡ k → r ≡ getD cells (k - 1 + 2) 0
+  size-as e f = cc
+
+  pub depth-zero : r ≡ 0 → r ≡ getD cells (n - 1 + 1) 0 → n ≡ k → ltb 0 (getD cells (k - 1 + 1) 0) ≡ false
+  depth-zero z e f = rw (← f, ← e, z)
+
+  pub depth-there : (r ≡ 0 → ⊥) → r ≡ getD cells (n - 1 + 1) 0 → n ≡ k → 0 < getD cells (k - 1 + 1) 0
+  depth-there z e f = rw (← f, ← e) (omega arith)
+
+  pub depth-known : 0 < getD cells (k - 1 + 1) 0 → r ≡ getD cells (n - 1 + 1) 0 → n ≡ k → 0 < r
+  depth-known z e f = rw (e, f) z
+
+  pub depth-some : (r ≡ 0 → ⊥) → r ≡ getD cells (n - 1 + 1) 0 → n ≡ k → ltb 0 (getD cells (k - 1 + 1) 0) ≡ true
+  depth-some z e f = rw (← f, ← e) (lt-ltb 0 r (omega arith))
 
 -- what an array's type is an array of
 abbrev elementOr : Ref → Desc → Desc
@@ -156,61 +198,82 @@ module _ (K : Program → Type 0) (c : Place) (cells : List ℕ) (r : Turn) (L :
       passed = λ _ w g w′ g′ cells′ p rest s. guard-so K c w g cells w′ g′ cells′ p _ _ (holds-so q _ f e) (if-some K c w g cells w′ g′ cells′ p n (toCell v) _ _ y k s);
     }
 
+  by-array : (w g w′ g′ cells′ : List ℕ) (p : Turn) (rest : Program → Here → Result) → Steps K c w g cells w′ g′ cells′ p (ready-array cells v rest) → Steps K c w g cells w′ g′ cells′ p (arraying L cells v rest)
+  by-array w g w′ g′ cells′ p rest s = likewise K c w g cells w′ g′ cells′ p _ _ (record { is = λ P x _ _. array-by L cells v rest P x }) s
+
+  -- q is whether it is usable, n the reference, td the header's depth
+  module _ (q : Bool) (e : q ≡ usable (heap cells 0) v) where
+    pub array-unfit : not q ≡ true → r .end ≡ 6 → r .operands ≡ 0 → Checked K c cells r (arraying L cells v)
+    array-unfit f h z = record {
+      refused = λ _ w g rest. by-array w g w g cells r rest (guard-not K c w g cells r _ _ (untrue q _ f e) h z);
+      passed = λ y. absurd (not-both (r .end) 5 h y);
+    }
+
+    module _ (f : not q ≡ false) (n : ℕ) (k : n ≡ toCell v) where
+      pub array-null : n ≡ 0 → r .end ≡ 7 → r .at ≡ nullPointer → r .operands ≡ 0 → Checked K c cells r (arraying L cells v)
+      array-null y h o z = record {
+        refused = λ _ w g rest. by-array w g w g cells r rest (guard-so K c w g cells w g cells r _ _ (holds-so q _ f e) (if-zero K c w g cells w g cells r n (toCell v) _ _ y k (steps-fault K c w g cells r nullPointer h o z)));
+        passed = λ y. absurd (not-both (r .end) 6 h y);
+      }
+
+      module _ (y : n ≡ 0 → ⊥) (td : ℕ) (d : td ≡ getD cells (n - 1 + 1) 0) where
+        pub array-flat : td ≡ 0 → r .end ≡ 6 → r .operands ≡ 0 → Checked K c cells r (arraying L cells v)
+        array-flat o h z = record {
+          refused = λ _ w g rest. by-array w g w g cells r rest (guard-so K c w g cells w g cells r _ _ (holds-so q _ f e)
+              (if-some K c w g cells w g cells r n (toCell v) _ _ y k (guard-not K c w g cells r _ _ (depth-zero cells td n (toCell v) o d k) h z)));
+          passed = λ y. absurd (not-both (r .end) 5 h y);
+        }
+
+        pub array-on : (td ≡ 0 → ⊥) → r .end ≡ 0 → Checked K c cells r (arraying L cells v)
+        array-on o h = record {
+          refused = λ z. absurd (z h);
+          passed = λ _ w g w′ g′ cells′ p rest s. by-array w g w′ g′ cells′ p rest (guard-so K c w g cells w′ g′ cells′ p _ _ (holds-so q _ f e)
+              (if-some K c w g cells w′ g′ cells′ p n (toCell v) _ _ y k (guard-so K c w g cells w′ g′ cells′ p _ _ (depth-some cells td n (toCell v) o d k) s)));
+        }
+
   module _ (ints : Bool) (i : ℕ) where
-    pub index-refused : Checked K c cells r (reaching L cells (cls object) v) → (r .end ≡ 0 → ⊥) → Checked K c cells r (indexing L cells ints v i)
+    pub index-refused : Checked K c cells r (arraying L cells v) → (r .end ≡ 0 → ⊥) → Checked K c cells r (indexing L cells ints v i)
     unfolding indexing
     index-refused h z = record { refused = λ _ w g rest. h .refused z w g _; passed = λ y. absurd (z y) }
 
     -- n is the reference, tb and td are the header's base and depth
-    module _ (p : Turn) (h : Checked K c cells p (reaching L cells (cls object) v)) (z : p .end ≡ 0) (n td : ℕ) (y : n ≡ toCell v) (f : td ≡ getD cells (n - 1 + 1) 0) where
-      depth-is : td ≡ depthIn cells v
-      depth-is = f ∙ ap (λ (k : ℕ). getD cells (k - 1 + 1) 0) y
+    module _ (p : Turn) (h : Checked K c cells p (arraying L cells v)) (z : p .end ≡ 0) (n td : ℕ) (y : n ≡ toCell v) (f : td ≡ getD cells (n - 1 + 1) 0)
+        (tb : ℕ) (x : tb ≡ getD cells (n - 1) 0) (e : 0 < depthIn cells v) (D : Desc) (ed : arr D ≡ refOf tb td) (q b : Bool) (eq : q ≡ isDint D) (eb : b ≡ Bool·beq ints q) where
+      kind-is : b ≡ Bool·beq ints (isDint (elementOf cells v))
+      kind-is =
+          let depth-is : td ≡ depthIn cells v = f ∙ ap (λ (k : ℕ). getD cells (k - 1 + 1) 0) y in
+          let base-is : tb ≡ baseIn cells v = x ∙ ap (λ (k : ℕ). getD cells (k - 1) 0) y in
+          let desc-is : D ≡ elementOf cells v = element-desc tb td D (rw depth-is e) ed ∙ rw (base-is, depth-is) in
+          eb ∙ ap (Bool·beq ints) (eq ∙ ap isDint desc-is)
 
-      pub index-flat : td ≡ 0 → r .end ≡ 6 → r .operands ≡ 0 → Checked K c cells r (indexing L cells ints v i)
+      pub index-kind : not b ≡ true → r .end ≡ 6 → r .operands ≡ 0 → Checked K c cells r (indexing L cells ints v i)
       unfolding indexing
-      index-flat e k o = record {
-        refused = λ _ w g rest. h .passed z w g w g cells r _ (guard-not K c w g cells r _ _ (le-ltb 0 (depthIn cells v) (omega (arith, depth-is))) k o);
+      index-kind j k o = record {
+        refused = λ _ w g rest. h .passed z w g w g cells r _ (guard-not K c w g cells r _ _ (untrue b _ j kind-is) k o);
         passed = λ y. absurd (not-both (r .end) 5 k y);
       }
 
-      module _ (tb : ℕ) (x : tb ≡ getD cells (n - 1) 0) (e : td ≡ 0 → ⊥) (D : Desc) (ed : arr D ≡ refOf tb td) (q b : Bool) (eq : q ≡ isDint D) (eb : b ≡ Bool·beq ints q) where
-        deep : ltb 0 (depthIn cells v) ≡ true
-        deep = lt-ltb 0 (depthIn cells v) (rw (← depth-is) (omega arith))
+      module _ (j : not b ≡ false) (size : ℕ) (l : size ≡ getD cells (n - 1 + 2) 0) where
+        size-is : size ≡ sizeIn cells v
+        size-is = l ∙ ap (λ (k : ℕ). getD cells (k - 1 + 2) 0) y
 
-        kind-is : b ≡ Bool·beq ints (isDint (elementOf cells v))
-        kind-is =
-            let base-is : tb ≡ baseIn cells v = x ∙ ap (λ (k : ℕ). getD cells (k - 1) 0) y in
-            let desc-is : D ≡ elementOf cells v = element-desc tb td D (omega arith) ed ∙ rw (base-is, depth-is) in
-            eb ∙ ap (Bool·beq ints) (eq ∙ ap isDint desc-is)
-
-        pub index-kind : not b ≡ true → r .end ≡ 6 → r .operands ≡ 0 → Checked K c cells r (indexing L cells ints v i)
+        pub index-out : size ≤ i → r .end ≡ 7 → r .at ≡ arrayIndex → r .operands ≡ 0 → Checked K c cells r (indexing L cells ints v i)
         unfolding indexing
-        index-kind j k o = record {
-          refused = λ _ w g rest. h .passed z w g w g cells r _ (guard-so K c w g cells w g cells r _ _ deep (guard-not K c w g cells r _ _ (untrue b _ j kind-is) k o));
-          passed = λ y. absurd (not-both (r .end) 5 k y);
+        index-out o k u x = record {
+          refused = λ _ w g rest. h .passed z w g w g cells r _
+              (guard-so K c w g cells w g cells r _ _ (holds-so b _ j kind-is)
+              (either-no K c w g cells w g cells r _ _ _ (le-ltb i (sizeIn cells v) (rw (← size-is) o)) (steps-fault K c w g cells r arrayIndex k u x)));
+          passed = λ y. absurd (not-both (r .end) 6 k y);
         }
 
-        module _ (j : not b ≡ false) (size : ℕ) (l : size ≡ getD cells (n - 1 + 2) 0) where
-          size-is : size ≡ sizeIn cells v
-          size-is = l ∙ ap (λ (k : ℕ). getD cells (k - 1 + 2) 0) y
-
-          pub index-out : size ≤ i → r .end ≡ 7 → r .at ≡ arrayIndex → r .operands ≡ 0 → Checked K c cells r (indexing L cells ints v i)
-          unfolding indexing
-          index-out o k u x = record {
-            refused = λ _ w g rest. h .passed z w g w g cells r _
-                (guard-so K c w g cells w g cells r _ _ deep (guard-so K c w g cells w g cells r _ _ (holds-so b _ j kind-is)
-                (either-no K c w g cells w g cells r _ _ _ (le-ltb i (sizeIn cells v) (rw (← size-is) o)) (steps-fault K c w g cells r arrayIndex k u x))));
-            passed = λ y. absurd (not-both (r .end) 6 k y);
-          }
-
-          pub index-on : i < size → r .end ≡ 0 → Checked K c cells r (indexing L cells ints v i)
-          unfolding indexing
-          index-on o k = record {
-            refused = λ y. absurd (y k);
-            passed = λ _ w g w′ g′ cells′ x rest s. h .passed z w g w′ g′ cells′ x _
-                (guard-so K c w g cells w′ g′ cells′ x _ _ deep (guard-so K c w g cells w′ g′ cells′ x _ _ (holds-so b _ j kind-is)
-                (either-yes K c w g cells w′ g′ cells′ x _ _ _ (lt-ltb i (sizeIn cells v) (rw (← size-is) o)) s)));
-          }
+        pub index-on : i < size → r .end ≡ 0 → Checked K c cells r (indexing L cells ints v i)
+        unfolding indexing
+        index-on o k = record {
+          refused = λ y. absurd (y k);
+          passed = λ _ w g w′ g′ cells′ x rest s. h .passed z w g w′ g′ cells′ x _
+              (guard-so K c w g cells w′ g′ cells′ x _ _ (holds-so b _ j kind-is)
+              (either-yes K c w g cells w′ g′ cells′ x _ _ _ (lt-ltb i (sizeIn cells v) (rw (← size-is) o)) s));
+        }
 
 -- a load from an array, the index on top
 unfoldable pub loading : List ℕ → ℕ → ℕ → Place → List ℕ → List ℕ → List ℕ → Bool → Program → Here → Result
@@ -247,8 +310,8 @@ module _ (t : List ℕ) (a m : ℕ) (c : Place) (w g cells : List ℕ) where
   }
 
   pub length-as : As (λ P. Parents P t a m) c w g cells (doing w g (c .operands) arraylength)
-      (guarded (leb 1 (c .operands)) (reaching (lineage t a m) cells (cls object) v1 (guarded (ltb 0 (depthIn cells v1)) (pushing (num (sizeIn cells v1)) w g (c .operands - 1)))))
-  unfolding doing execute guarded either faulting pushing typeAt
+      (guarded (leb 1 (c .operands)) (arraying (lineage t a m) cells v1 (pushing (num (sizeIn cells v1)) w g (c .operands - 1))))
+  unfolding doing execute arraying guarded either faulting pushing typeAt
   length-as = record {
     is = λ P x p s. any-by w g (c .operands) _
         ∙ ap (only (leb 1 (c .operands)))
@@ -359,29 +422,6 @@ pub new-as : (k size : ℕ) (c : Place) (w g cells : List ℕ) → As (λ P. siz
 unfolding doing execute guarded making make
 new-as k size c w g cells = record { is = λ P x p s. rw (length-ops w g (c .operands), s .most, ← p) }
 
--- ---- what calls gave, of the reference n
-module _ (cells : List ℕ) (r n k : ℕ) where
-  pub cell-as : (i : ℕ) → r ≡ getD cells (elementAt (n - 1) i) 0 → n ≡ k → r ≡ getD cells (elementAt (k - 1) i) 0
-  cell-as i e f = cc
-
-  pub size-as : r ≡ getD cells (n - 1 + 2) 0 → n ≡ k → r ≡ getD cells (k - 1 + 2) 0
-  size-as e f = cc
-
-  pub depth-zero : r ≡ 0 → r ≡ getD cells (n - 1 + 1) 0 → n ≡ k → ltb 0 (getD cells (k - 1 + 1) 0) ≡ false
-  depth-zero z e f = rw (← f, ← e, z)
-
-  pub depth-there : (r ≡ 0 → ⊥) → r ≡ getD cells (n - 1 + 1) 0 → n ≡ k → 0 < getD cells (k - 1 + 1) 0
-  depth-there z e f = rw (← f, ← e) (omega arith)
-
-  pub depth-known : 0 < getD cells (k - 1 + 1) 0 → r ≡ getD cells (n - 1 + 1) 0 → n ≡ k → 0 < r
-  depth-known z e f = rw (e, f) z
-
-  pub depth-some : (r ≡ 0 → ⊥) → r ≡ getD cells (n - 1 + 1) 0 → n ≡ k → ltb 0 (getD cells (k - 1 + 1) 0) ≡ true
-  depth-some z e f = rw (← f, ← e) (lt-ltb 0 r (omega arith))
-
-pub written-as : (cells cells′ : List ℕ) (n k i j v u : ℕ) → cells′ ≡ set cells (elementAt (n - 1) i) v → n ≡ k → i ≡ j → v ≡ u → cells′ ≡ set cells (elementAt (k - 1) j) u
-written-as cells cells′ n k i j v u e f h p = cc
-
 -- an array's element, by what its type's element is
 module _ (cells : List ℕ) (n k tb td : ℕ) (D : Desc) (x : tb ≡ getD cells (n - 1) 0) (f : td ≡ getD cells (n - 1 + 1) 0) (y : n ≡ k) (h : 0 < getD cells (k - 1 + 1) 0) (e : arr D ≡ refOf tb td) where
   pub element-as : D ≡ descOf (getD cells (k - 1) 0) (getD cells (k - 1 + 1) 0 - 1)
@@ -425,6 +465,4 @@ kind-as v q b L cells n k tb td u y o z e f h p w =
     let t : b ≡ refFits L (refOf (getD cells (k - 1) 0) (getD cells (k - 1 + 1) 0)) y = cc in
     o ∙ ap num z ∙ ap truth t
 
-pub ruleset given = (cell-as, size-as, depth-zero, depth-some, element-as, from-as, num-as, written-as)
-
-pub ruleset checks = (reach-unfit, reach-null, reach-on, index-refused, index-flat, index-kind, index-out, index-on)
+pub ruleset checks = (reach-unfit, reach-null, reach-on, array-unfit, array-null, array-flat, array-on, index-refused, index-kind, index-out, index-on)

@@ -25,11 +25,11 @@ pub record Wiped (l l′ : List ℕ) (to n : ℕ) : Type 0 where
   pub front : take to l′ ≡ take to l
   pub zeros : (i : ℕ) → i < n → getD l′ (to + i) 0 ≡ 0
 
-pub record Fresh (l l′ : List ℕ) (d left n : ℕ) : Type 0 where
+pub record Fresh (l l′ : List ℕ) (d left n m : ℕ) : Type 0 where
   pub size : length l′ ≡ length l
   pub front : take (64 * suc d) l′ ≡ take (64 * suc d) l
   pub moved : (i : ℕ) → i < n → getD l′ (64 * suc d + i) 0 ≡ getD l (64 * d + 32 + left + i) 0
-  pub zeros : (i : ℕ) → n ≤ i → i < 32 → getD l′ (64 * suc d + i) 0 ≡ 0
+  pub zeros : (i : ℕ) → n ≤ i → i < m → getD l′ (64 * suc d + i) 0 ≡ 0
 
 -- ---- one word more
 getD-front : (l l′ : List ℕ) (n i : ℕ) → take n l′ ≡ take n l → i < n → getD l′ i 0 ≡ getD l i 0
@@ -68,8 +68,8 @@ wipe-more l l′ to i m k = record {
         rw z (getD-set-same l′ (to + i) 0 0 (rw (k .size) m))
 
 -- ---- both together
-pub fresh : (l m r : List ℕ) (d left n : ℕ) → n ≤ 32 → Carried l m (64 * d + 32 + left) (64 * d + 64) n → Wiped m r (64 * d + 64 + n) (32 - n) → Fresh l r d left n
-fresh l m r d left n h k w =
+pub fresh : (l m r : List ℕ) (d left n most : ℕ) → Carried l m (64 * d + 32 + left) (64 * d + 64) n → Wiped m r (64 * d + 64 + n) (most - n) → Fresh l r d left n most
+fresh l m r d left n most k w =
     let b : 64 * suc d ≡ 64 * d + 64 = omega arith in
     record {
       size = w .size ∙ k .size;
@@ -105,7 +105,7 @@ unfolding valueOf
 empty-tag v = refl
 
 -- the arguments, then empty locals
-module _ (s s′ g g′ : List ℕ) (d left n : ℕ) (h : left + n ≤ 32) (p : Fresh s s′ d left n) (q : Fresh g g′ d left n) where
+module _ (s s′ g g′ : List ℕ) (d left n most : ℕ) (h : left + n ≤ 32) (u : most ≤ 32) (p : Fresh s s′ d left n most) (q : Fresh g g′ d left n most) where
   argument : (i : ℕ) → i < n → valAt (windowAt s′ (suc d)) (windowAt g′ (suc d)) (0 + i) ≡ valAt (windowAt s d) (windowAt g d) (32 + left + i)
   argument i l =
       let e : 64 * d + (32 + left + i) ≡ 64 * d + 32 + left + i = omega arith in
@@ -120,12 +120,12 @@ module _ (s s′ g g′ : List ℕ) (d left n : ℕ) (h : left + n ≤ 32) (p : 
         e,
       )
 
-  blank : (i : ℕ) → n ≤ i → i < 32 → valAt (windowAt s′ (suc d)) (windowAt g′ (suc d)) i ≡ empty
-  blank i l u = rw (getD-part (64 * suc d) 64 g′ i 0 (omega arith), q .zeros i l u) (empty-tag _)
+  blank : (i : ℕ) → n ≤ i → i < most → valAt (windowAt s′ (suc d)) (windowAt g′ (suc d)) i ≡ empty
+  blank i l b = rw (getD-part (64 * suc d) 64 g′ i 0 (omega arith), q .zeros i l b) (empty-tag _)
 
-  pub new-locals : (m : ℕ) → n + (m - n) ≤ 32
+  pub new-locals : (m : ℕ) → n + (m - n) ≤ most
       → locsOf (windowAt s′ (suc d)) (windowAt g′ (suc d)) (n + (m - n)) ≡ paddedLocals m (locsFrom (windowAt s d) (windowAt g d) (32 + left) n)
-  new-locals m u =
+  new-locals m b =
       locs-split (windowAt s′ (suc d)) (windowAt g′ (suc d)) 0 n (m - n)
       ∙ rw (
         locs-as (windowAt s′ (suc d)) (windowAt g′ (suc d)) (windowAt s d) (windowAt g d) 0 (32 + left) n argument,

@@ -5,7 +5,7 @@ ghost use mathlib.Core.List.{[], _∷_};
 ghost use lib.ListN.{length};
 ghost use Rattle.plain.specs.ValueLaws.{valueOf};
 ghost use Rattle.plain.specs.Calls.{frameAt};
-ghost use Rattle.plain.specs.CallSteps.{Lent, Enters, Gives, resumedAt};
+ghost use Rattle.plain.specs.CallSteps.{Lent, Gives, resumedAt};
 use crate::frames::Frame;
 use crate::frames::{self};
 use crate::values::Value;
@@ -16,37 +16,6 @@ pub struct Going {
     pub end: u32,
     pub depth: usize,
     pub call: Frame,
-}
-
-// From the call k at depth d, whose operands that are left stand in it, into another with the n operands above them. The records' first
-// word is a.
-pub fn enter(
-    t: &mut [u8],
-    s: &mut [u32],
-    g: &mut [u8],
-    a: usize,
-    d: usize,
-    k: Frame,
-    n: usize,
-    into: Frame,
-) -> Going
-    requires { ⌜ Lent (now t) (now s) (now g) a × (k .operands + n ≤ 32) × (into .locals ≤ 32) × (into .offset ≡ 0) × (into .operands ≡ 0) ⌝ }
-    ensures { λ r. ⌜ Enters (now (t .entry)) (now (s .entry)) (now (g .entry)) (now (t .exit)) (now (s .exit)) (now (g .exit)) a d k n into r ⌝ }
-{
-    if 63 <= d {
-        return Going {
-            end: Turn::DEPTH_FULL,
-            depth: d,
-            call: k,
-        };
-    }
-    frames::save(t, a, d, k);
-    frames::next_window(s, g, d, k.operands as usize, n);
-    Going {
-        end: Turn::ON,
-        depth: d + 1,
-        call: into,
-    }
 }
 
 // The call that waits at depth e, behind its call instruction of that size, with operands more.

@@ -2,7 +2,7 @@
 ghost use mathlib.Core.Path.{_≡_};
 ghost use Prim.Native.Nat.{_+_, _*_, _/_, _<_, _≤_};
 ghost use lib.ListN.{length};
-ghost use Rattle.plain.specs.Calls.{frameAt, Saved};
+ghost use Rattle.plain.specs.Calls.{frameAt};
 ghost use Rattle.plain.specs.NextWindow.{Carried, Wiped, Fresh};
 
 // A call without its values: class and method, offset, a constructor's receiver or 0, and how many operands and locals it has.
@@ -16,19 +16,6 @@ pub struct Frame {
 }
 
 // The record of the call at depth d, in the words from a on.
-pub fn save(t: &mut [u8], a: usize, d: usize, k: Frame)
-    requires { ⌜ (d < 64) × (a + 6 * d + 6 ≤ length (now t) / 4) ⌝ }
-    ensures { λ _. ⌜ Saved (now (t .entry)) (now (t .exit)) a d k ⌝ }
-{
-    let b = a + 6 * d;
-    kit::put_word(t, b, k.class);
-    kit::put_word(t, b + 1, k.method);
-    kit::put_word(t, b + 2, k.offset);
-    kit::put_word(t, b + 3, k.own);
-    kit::put_word(t, b + 4, k.operands);
-    kit::put_word(t, b + 5, k.locals);
-}
-
 pub fn saved(t: &[u8], a: usize, d: usize) -> Frame
     requires { ⌜ (d < 64) × (a + 6 * d + 6 ≤ length (now t) / 4) ⌝ }
     ensures { λ r. ⌜ r ≡ frameAt (now (t .entry)) a d ⌝ }
@@ -70,12 +57,12 @@ fn wipe(s: &mut [u32], g: &mut [u8], to: usize, n: usize)
     }
 }
 
-// The next window's locals: the n operands above the first `left` of depth d, then empty ones.
-pub fn next_window(s: &mut [u32], g: &mut [u8], d: usize, left: usize, n: usize)
-    requires { ⌜ (left + n ≤ 32) × (64 * d + 128 ≤ length (now s)) × (64 * d + 128 ≤ length (now g)) ⌝ }
-    ensures { λ _. ⌜ Fresh (now (s .entry)) (now (s .exit)) d left n × Fresh (now (g .entry)) (now (g .exit)) d left n ⌝ }
+// The next window's m locals: the n operands above the first `left` of depth d, then empty ones.
+pub fn next_window(s: &mut [u32], g: &mut [u8], d: usize, left: usize, n: usize, m: usize)
+    requires { ⌜ (left + n ≤ 32) × (n ≤ m) × (m ≤ 32) × (64 * d + 128 ≤ length (now s)) × (64 * d + 128 ≤ length (now g)) ⌝ }
+    ensures { λ _. ⌜ Fresh (now (s .entry)) (now (s .exit)) d left n m × Fresh (now (g .entry)) (now (g .exit)) d left n m ⌝ }
 {
     let b = 64 * d;
     carry(s, g, b + 32 + left, b + 64, n);
-    wipe(s, g, b + 64 + n, 32 - n);
+    wipe(s, g, b + 64 + n, m - n);
 }

@@ -14,7 +14,7 @@ ghost use Rattle.plain.specs.ValueLaws.{valueOf};
 ghost use Rattle.plain.specs.Windows.{Sized};
 ghost use Rattle.plain.specs.WindowForms.{doing};
 ghost use Rattle.plain.specs.HeapTurns.{Steps, Writes, making, anyProgram};
-ghost use Rattle.plain.specs.HeapForms.{Checked, reaching, indexing, loading, depthIn};
+ghost use Rattle.plain.specs.HeapForms.{Checked, reaching, arraying, indexing, loading, depthIn};
 use crate::heap;
 use crate::integers;
 use crate::objects;
@@ -41,6 +41,24 @@ fn reach(t: &[u8], kin: Kin, cells: &[u32], c: Place, v: Value, asked: RunType) 
     window::fine(c)
 }
 
+// Whether v is an array: stuck where it is something else, a fault where it is null. Arrays are Objects whatever their base, so that no
+// parents are asked.
+fn found(t: &[u8], kin: Kin, cells: &[u32], c: Place, v: Value) -> Turn
+    ensures { λ r. ⌜ Checked (λ P. Parents P (now (t .entry)) (kin .at) (kin .count)) c (now (cells .entry)) r (arraying (lineage (now (t .entry)) (kin .at) (kin .count)) (now (cells .entry)) (valueOf (v .tag) (v .cell))) × ((r .end ≡ 0) → (0 < toCell (valueOf (v .tag) (v .cell))) × (0 < depthIn (now (cells .entry)) (valueOf (v .tag) (v .cell)))) ⌝ }
+{
+    if !objects::is_usable(cells, v) {
+        return window::stuck(c);
+    }
+    let n = v.to_cell();
+    if n == 0 {
+        return window::fault(c, 10);
+    }
+    if heap::depth_at(cells, n - 1) == 0 {
+        return window::stuck(c);
+    }
+    window::fine(c)
+}
+
 fn same(a: bool, b: bool) -> bool
     ensures { λ r. ⌜ r ≡ Bool·beq a b ⌝ }
 {
@@ -54,16 +72,12 @@ fn same(a: bool, b: bool) -> bool
 fn index(t: &[u8], kin: Kin, cells: &[u32], c: Place, v: Value, ints: bool, i: u32) -> Turn
     ensures { λ r. ⌜ Checked (λ P. Parents P (now (t .entry)) (kin .at) (kin .count)) c (now (cells .entry)) r (indexing (lineage (now (t .entry)) (kin .at) (kin .count)) (now (cells .entry)) ints (valueOf (v .tag) (v .cell)) i) × ((r .end ≡ 0) → (0 < toCell (valueOf (v .tag) (v .cell))) × (0 < depthIn (now (cells .entry)) (valueOf (v .tag) (v .cell)))) ⌝ }
 {
-    let asked = RunType { base: 0, depth: 0 };
-    let r = reach(t, kin, cells, c, v, asked);
+    let r = found(t, kin, cells, c, v);
     if r.end != 0 {
         return r;
     }
     let a = v.to_cell() - 1;
     let of = values::type_at(cells, a);
-    if of.depth == 0 {
-        return window::stuck(c);
-    }
     if !same(ints, of.element().is_int()) {
         return window::stuck(c);
     }
@@ -85,16 +99,11 @@ pub fn length(t: &[u8], kin: Kin, cells: &[u32], w: &mut [u32], g: &mut [u8], c:
         tag: g[i],
         cell: w[i],
     };
-    let asked = RunType { base: 0, depth: 0 };
-    let r = reach(t, kin, cells, c, v, asked);
+    let r = found(t, kin, cells, c, v);
     if r.end != 0 {
         return r;
     }
-    let a = v.to_cell() - 1;
-    if heap::depth_at(cells, a) == 0 {
-        return window::stuck(c);
-    }
-    let n = Value::num(heap::size_at(cells, a));
+    let n = Value::num(heap::size_at(cells, v.to_cell() - 1));
     window::push(w, g, window::lowered(c, 1), n)
 }
 

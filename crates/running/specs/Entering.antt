@@ -49,7 +49,7 @@ module _ (t s g : List ℕ) (d : ℕ) (k : Frame) (n : ℕ) (into : Frame) where
       record { enters = enter-full t s g records d k n into r h e; besides = besides-none records 384 t; low = omega arith; full = λ z. absurd (omega arith) }
 
   pub entered-on : (t′ s′ g′ : List ℕ) → d < 63 → k .operands + n ≤ 32 → into .locals ≤ 32 → into .offset ≡ 0 → into .operands ≡ 0
-      → Saved t t′ records d k → Besides records 384 t t′ → Fresh s s′ d (k .operands) n → Fresh g g′ d (k .operands) n
+      → Saved t t′ records d k → Besides records 384 t t′ → Fresh s s′ d (k .operands) n (into .locals) → Fresh g g′ d (k .operands) n (into .locals)
       → Entered t s g t′ s′ g′ d k n into (record { end = 0; depth = d + 1; call = into })
   entered-on t′ s′ g′ h b l o z v y p q =
       record { enters = enter-on t s g records d k n into t′ s′ g′ h b l o z v p q; besides = y; low = omega arith; full = λ e. h }
@@ -92,8 +92,8 @@ module _ (b : List ℕ) (n : ℕ) (t s g : List ℕ) (d : ℕ) (k : Frame) (y : 
   pub way-read : (m : ℕ) → m ≡ u2At b (word (blockAt (front t) (y .class - 11)) (methodRows + 6 * y .method + 2) + 2) → m ≡ body (methodBy b n (front t) (y .class) (y .method)) .maxLocals
   way-read m e = e ∙ locals-word b n t (h .standing .ready) (h .standing .shaped) (y .class) (y .method) (h .of)
 
-  pub way-asked : (m : ℕ) → m ≡ body (methodBy b n (front t) (y .class) (y .method)) .maxLocals → Lent t s g records × (y .left + y .count ≤ 32) × (m ≤ 32) × (_≡_ {A = ℕ} 0 0) × (_≡_ {A = ℕ} 0 0)
-  way-asked m e = (h .standing .lent, omega (arith, h .operands, few-operands b n t s g d k (h .standing)), omega (arith, e, callee .fits .locals), refl, refl)
+  pub way-asked : (m : ℕ) → m ≡ body (methodBy b n (front t) (y .class) (y .method)) .maxLocals → Lent t s g records × (y .left + y .count ≤ 32) × (y .count ≤ m) × (m ≤ 32) × (_≡_ {A = ℕ} 0 0) × (_≡_ {A = ℕ} 0 0)
+  way-asked m e = (h .standing .lent, omega (arith, h .operands, few-operands b n t s g d k (h .standing)), omega (arith, e, h .args), omega (arith, e, callee .fits .locals), refl, refl)
 
   pub way-left : y .left ≤ 32
   way-left = omega (arith, h .operands, few-operands b n t s g d k (h .standing))

@@ -6,6 +6,8 @@ pub mod Leaving
 pub mod Receiving
 pub mod Dispatching
 pub mod Virtual
+pub mod Routes
+pub mod Sending
 pub mod CallSites
 pub mod Targets
 pub mod Throws

@@ -52,7 +52,7 @@ fn enter(
     n: usize,
     into: Frame,
 ) -> Going
-    requires { ⌜ Lent (now t) (now s) (now g) records × (k .operands + n ≤ 32) × (into .locals ≤ 32) × (into .offset ≡ 0) × (into .operands ≡ 0) ⌝ }
+    requires { ⌜ Lent (now t) (now s) (now g) records × (k .operands + n ≤ 32) × (n ≤ into .locals) × (into .locals ≤ 32) × (into .offset ≡ 0) × (into .operands ≡ 0) ⌝ }
     ensures { λ r. ⌜ Entered (now (t .entry)) (now (s .entry)) (now (g .entry)) (now (t .exit)) (now (s .exit)) (now (g .exit)) d k n into r ⌝ }
 {
     if 63 <= d {
@@ -63,7 +63,7 @@ fn enter(
         };
     }
     save(t, d, k);
-    frames::next_window(s, g, d, k.operands as usize, n);
+    frames::next_window(s, g, d, k.operands as usize, n, into.locals as usize);
     Going {
         end: Turn::ON,
         depth: d + 1,

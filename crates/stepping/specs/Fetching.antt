@@ -40,6 +40,7 @@ use Rattle.running.specs.Dispatching.{Dispatch}
 use Rattle.running.specs.Calling.{Calling as AtSite, StaticCall}
 use Rattle.running.specs.Receiving.{InitCall}
 use Rattle.running.specs.Virtual.{VirtualCall}
+use Rattle.running.specs.Sending.{CallReady}
 use Rattle.running.specs.CallSites.{static-at, init-at, virtual-at}
 use Rattle.stepping.specs.Callable.{Callable}
 use Rattle.stepping.specs.JumpSites.{LowOf, low-at}
@@ -48,7 +49,6 @@ use Rattle.stepping.specs.Stepping.{Stepped}
 use Rattle.stepping.specs.Turning.{Stays}
 use Rattle.stepping.specs.Moves.{executed, Does, Stops, does-stop}
 use Rattle.stepping.specs.Windowed.{Before}
-use Rattle.stepping.specs.CallMoves.{CallReady}
 
 -- what the parts of a step ask for beside what stands before the instruction
 abbrev pub Ready : List ℕ → List ℕ → List ℕ → List ℕ → Site → ℕ → Frame → ℕ → code.Instr → Type 0

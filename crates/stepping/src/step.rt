@@ -78,7 +78,7 @@ pub fn step_at(
     if code.len() <= o {
         return moves::stop(6, d, k, used);
     }
-    let i = decode::instruction(b, t, x.class, code, o);
+    let i = decode::fetch(b, t, x.class, code, o);
     let z = size_at(code, o);
     one(b, t, cells, s, g, x, d, k, used, z, i)
 }

@@ -42,7 +42,7 @@ same-length-2 : tie.Need-same-length-2
 same-length-2 c = search needs
 
 returns : tie.Need-returns
-returns c = (fresh _ _ _ _ _ _ (omega arith) (c .before .before .before .before .before .before .before .before .before .before .before .carry .ensures .0) (c .before .before .before .before .wipe .ensures .0), fresh _ _ _ _ _ _ (omega arith) (c .before .before .before .before .before .before .before .before .before .before .before .carry .ensures .1) (c .before .before .before .before .wipe .ensures .1))
+returns c = (fresh _ _ _ _ _ _ _ (c .before .before .before .before .before .before .before .before .before .before .before .carry .ensures .0) (c .before .before .before .before .wipe .ensures .0), fresh _ _ _ _ _ _ _ (c .before .before .before .before .before .before .before .before .before .before .before .carry .ensures .1) (c .before .before .before .before .wipe .ensures .1))
 
 pub next-window-spec : {M : Type 1} → statement M
 next-window-spec =
