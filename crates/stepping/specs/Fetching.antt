@@ -12,9 +12,8 @@ use Rattle.kit.specs.Lists.{length-part}
 use Rattle.classfiles.specs.Limits.{maxHeap}
 use Rattle.reader.specs.BuiltIns.{firstClass}
 use Rattle.texts.specs.Reading.{part}
-use Rattle.reader.specs.Linked.{filesIn}
-use Rattle.reader.specs.Program.{Program, Method, programOf, isConstructor, below, lookup, methodSigs, spot}
-use Rattle.rules.specs.Instruction.{MethodRef, invokevirtual}
+use Rattle.reader.specs.Program.{Program, Method, isConstructor}
+use Rattle.rules.specs.Instruction.{invokevirtual}
 use Rattle.rules.specs.InstructionWords.{instrOf, branchOf, calleeOf, callOf}
 use Rattle.rules.specs.Opcodes.{codeOf, sizeAt, instruction}
 use Rattle.rules.specs.Decoding.{DecodedAt}
@@ -35,7 +34,7 @@ use Rattle.rules.specs.declared.instruction.Callee.{Callee}
 use Rattle.plain.specs.Machine.{stopped, stuck}
 use Rattle.plain.specs.Step.{execute, step}
 use Rattle.plain.specs.declared.frames.Frame.{Frame}
-use Rattle.running.specs.Standing.{machineOf, methodBy, Row, Standing}
+use Rattle.running.specs.Standing.{machineOf, methodBy, Standing}
 use Rattle.running.specs.Dispatching.{Dispatch}
 use Rattle.running.specs.Calling.{Calling as AtSite, StaticCall}
 use Rattle.running.specs.Receiving.{InitCall}
@@ -277,20 +276,3 @@ module _ (b t s g : List ℕ) (x : Site) (d : ℕ) (k : Frame) (z : ℕ) (i : co
 
   pub ready-call : (j : Call) → i ≡ Calling j → (z ≡ 3) × CallReady b t s g x d k j
   ready-call j e = subst (Ready b t s g x d k z) e h
-
--- ---- what stays while the scratch's front does
-module _ (b : List ℕ) (n : ℕ) (t u : List ℕ) (e : front u ≡ front t) where
-  pub callable-kept : Callable b n t → Callable b n u
-  callable-kept h = record {
-    bound = subst (λ (f : List ℕ). (c j : ℕ) → isConstructor (methodBy b n f c j) ≡ true → methodBy b n f c j .static ≡ false) (sym e) (h .bound);
-    of = subst (λ (f : List ℕ). (c j o : ℕ) (m : MethodRef) → instruction (programOf (filesIn b n f)) (methodBy b n f c j) o ≡ invokevirtual m → Row n f (m .owner) (m .index)) (sym e) (h .of);
-    reach = subst (λ (f : List ℕ). (c j o : ℕ) (m : MethodRef) → instruction (programOf (filesIn b n f)) (methodBy b n f c j) o ≡ invokevirtual m
-        → (i : ℕ) → below (programOf (filesIn b n f)) i (m .named) ≡ true → below (programOf (filesIn b n f)) i (m .owner) ≡ true) (sym e) (h .reach);
-    over = subst (λ (f : List ℕ). (c j o : ℕ) (m : MethodRef) → instruction (programOf (filesIn b n f)) (methodBy b n f c j) o ≡ invokevirtual m
-        → (a p i : ℕ) → below (programOf (filesIn b n f)) a (m .owner) ≡ true → lookup (programOf (filesIn b n f)) methodSigs (methodBy b n f (m .owner) (m .index) .sig) a ≡ spot p i
-        → methodBy b n f p i .static ≡ false) (sym e) (h .over);
-  }
-
-  pub located-kept : (k j : Frame) (x : Site) → j .class ≡ k .class → j .method ≡ k .method → Located b n (k .class - 11) (k .method) x (front t)
-      → Located b n (j .class - 11) (j .method) x (front u)
-  located-kept k j x p q h = rw (e, p, q) h

@@ -7,7 +7,6 @@ ghost use Rattle.rules.specs.Sites.{front};
 ghost use Rattle.shaping.specs.Located.{Located};
 ghost use Rattle.running.specs.Standing.{Standing};
 ghost use Rattle.running.specs.Dispatching.{Dispatch};
-ghost use Rattle.running.specs.Throws.{OfBundle, Shaped};
 ghost use Rattle.stepping.specs.Stepping.{Stepped};
 ghost use Rattle.stepping.specs.Moves.{Does, executed};
 ghost use Rattle.stepping.specs.Windowed.{Before};
@@ -23,7 +22,6 @@ use rules::decode;
 use rules::instruction::Instr;
 use rules::opcodes::size_at;
 use rules::site::Site;
-use running::landing;
 
 // The instruction i of z bytes.
 fn one(
@@ -81,36 +79,4 @@ pub fn step_at(
     let i = decode::fetch(b, t, x.class, code, o);
     let z = size_at(code, o);
     one(b, t, cells, s, g, x, d, k, used, z, i)
-}
-
-// The site of call j's method, where x is that of call k's.
-pub fn site_after(b: &[u8], t: &[u8], n: usize, x: Site, k: Frame, j: Frame) -> Site
-    requires { ⌜ Shaped (now b) n (now t) × OfBundle n (now t) j × Located (now b) n (k .class - 11) (k .method) x (front (now t)) ⌝ }
-    ensures { λ y. ⌜ Located (now (b .entry)) n (j .class - 11) (j .method) y (front (now (t .entry))) ⌝ }
-{
-    if j.class != k.class {
-        return landing::site_of(b, t, n, j);
-    }
-    if j.method != k.method {
-        return landing::site_of(b, t, n, j);
-    }
-    x
-}
-
-pub fn step(
-    b: &[u8],
-    t: &mut [u8],
-    cells: &mut [u32],
-    s: &mut [u32],
-    g: &mut [u8],
-    n: usize,
-    d: usize,
-    k: Frame,
-    used: u32,
-) -> Moved
-    requires { ⌜ Standing (now b) n (now t) (now s) (now g) d k × Dispatch (now b) n (now t) × (length (now cells) ≤ maxHeap) × Callable (now b) n (now t) ⌝ }
-    ensures { λ r. ⌜ Stepped (now (b .entry)) n (now (t .entry)) (now (s .entry)) (now (g .entry)) (now (cells .entry)) d k used (now (t .exit)) (now (s .exit)) (now (g .exit)) (now (cells .exit)) r ⌝ }
-{
-    let x = landing::site_of(b, t, n, k);
-    step_at(b, t, cells, s, g, n, x, d, k, used)
 }

@@ -185,8 +185,8 @@ fn rare(
     }
 }
 
-// Fields and tests of references.
-fn others(
+// Whether two references are the same.
+fn equals(
     b: &[u8],
     t: &[u8],
     code: &[u8],
@@ -203,7 +203,6 @@ fn others(
     ensures { λ r. ⌜ Quick (now (b .entry)) (now (t .entry)) (now (code .entry)) y at operands used (now (w .entry)) (now (g .entry)) (now (cells .entry)) (now (w .exit)) (now (g .exit)) (now (cells .exit)) r ⌝ }
 {
     match op {
-        0x53 => memory::aastore(t, kin(y), cells, w, g, place(y, at, operands, used, 1)),
         0xa5 => memory::if_same(
             t,
             kin(y),
@@ -224,6 +223,29 @@ fn others(
             false,
             decode::target(bytes(code, at)),
         ),
+        _ => rare(b, t, code, cells, w, g, y, at, operands, used, op),
+    }
+}
+
+// Fields, stores of references, tests for null.
+fn others(
+    b: &[u8],
+    t: &[u8],
+    code: &[u8],
+    cells: &mut [u32],
+    w: &mut [u32],
+    g: &mut [u8],
+    y: Ground,
+    at: u32,
+    operands: usize,
+    used: u32,
+    op: usize,
+) -> Turn
+    requires { ⌜ Ready (now code) (now cells) (now w) (now g) y at operands × (op ≡ getD (now code) at 0) ⌝ }
+    ensures { λ r. ⌜ Quick (now (b .entry)) (now (t .entry)) (now (code .entry)) y at operands used (now (w .entry)) (now (g .entry)) (now (cells .entry)) (now (w .exit)) (now (g .exit)) (now (cells .exit)) r ⌝ }
+{
+    match op {
+        0x53 => memory::aastore(t, kin(y), cells, w, g, place(y, at, operands, used, 1)),
         0xb4 => get_field(b, t, code, cells, w, g, y, at, operands, used),
         0xb5 => put_field(b, t, code, cells, w, g, y, at, operands, used),
         0xc6 => memory::if_null(
@@ -246,7 +268,7 @@ fn others(
             false,
             decode::target(bytes(code, at)),
         ),
-        _ => rare(b, t, code, cells, w, g, y, at, operands, used, op),
+        _ => equals(b, t, code, cells, w, g, y, at, operands, used, op),
     }
 }
 
