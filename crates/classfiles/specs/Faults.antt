@@ -2,22 +2,23 @@
 use Prim.Native.Nat.{ℕ, _+_, _-_, _*_, _/_, _<_, _≤_}
 use mathlib.Core.Path.{_≡_, refl, sym, ap, _∙_}
 use mathlib.Core.List.{List}
-use mathlib.Core.Bool.{Bool, true, false, not}
+use mathlib.Core.Bool.{Bool, true, false, cond, not}
 use native.Mathlib.Omega.{arith}
 use lib.Dec.{eqb}
-use lib.ListN.{length, take, drop}
-use borrow.Author.Tests.{lt-ltb, le-ltb}
+use lib.ListN.{length, getD, take, drop}
+use borrow.Author.Tests.{lt-ltb, le-ltb, ne-eqb}
 use Rattle.kit.specs.Scan.{firstNot, scan-start}
 use lib.Seq.{ext-getD, length-take-le, getD-take}
 use Rattle.kit.specs.Words.{word, words, words-at, word-take, length-words}
-use Rattle.texts.specs.Reading.{Res, ok, bad, part}
+use Rattle.texts.specs.Reading.{Res, ok, bad, u2At, u4At, part}
 use Rattle.texts.specs.Answers.{res, resAs, is-ok, is-bad, no-ok, no-bad, as-bad}
 use Rattle.classfiles.specs.Descriptors.{classTypeAt}
 use Rattle.classfiles.specs.Shapes.{seen, classShape, class-shape}
-use Rattle.classfiles.specs.Pool.{Constant, constants, entry, textOf, text, isUtf8, resFault, nameFault, constantFault, entryFault, judgedAt, checkedAt}
-use Rattle.classfiles.specs.Table.{poolIn, constantOf, length-pool}
+use Rattle.classfiles.specs.Pool.{Constant, absent, utf8, integer, classAt, fieldref, methodref, nameAndType, constantAt, constants, entry, text, isUtf8, isClass, isNameAndType, resFault, nameFault, pairFault, constantFault, entryFault, judgedAt, checkedAt}
+use Rattle.classfiles.specs.Table.{poolIn, IsText, length-pool}
+use Rattle.classfiles.specs.Tags.{at-class, at-field, at-method, at-pair}
 use Rattle.texts.specs.declared.items.Got.{Got}
-use Rattle.classfiles.specs.declared.pool.Entry.{Entry}
+use Rattle.classfiles.specs.declared.pool.Span.{Span}
 
 unfoldable pub sound : List Constant → ℕ → Bool
 sound pool i = eqb (entryFault pool i) 0
@@ -44,14 +45,10 @@ module _ {A : Type 0} (x : Res A) (g : Got) where
       go (ok v e) p = let z : _≡_ {A = ℕ} 0 1 = cc in absurd (omega arith)
       go (bad n q) p = cc
 
-module _ (pool : List Constant) (i : ℕ) (s : List ℕ) (a n : ℕ) (e : textOf (entry pool i) ≡ part s a n) (g : Got)
-    (h : res g ≡ classShape (take (a + n - a) (drop a s)) 0) where
+module _ (pool : List Constant) (i : ℕ) (s : List ℕ) (r : Span) (e : IsText s r (text pool i)) (g : Got)
+    (h : res g ≡ classShape (take (r .end - r .start) (drop (r .start) s)) 0) where
   shape : res g ≡ seen (λ r. 0) (classTypeAt (λ t. 0) (text pool i) 0)
-  unfolding text part
-  shape =
-      let k : a + n - a ≡ n = omega arith in
-      h ∙ ap (λ (m : ℕ). classShape (take m (drop a s)) 0) k ∙ ap (λ (l : List ℕ). classShape l 0) (sym e)
-      ∙ sym (class-shape (λ t. 0) (text pool i) 0)
+  shape = h ∙ ap (λ (l : List ℕ). classShape l 0) (e .is) ∙ sym (class-shape (λ t. 0) (text pool i) 0)
 
   pub name-none : isUtf8 (entry pool i) ≡ true → g .ok ≡ true → 0 ≡ nameFault pool i
   unfolding nameFault
@@ -65,11 +62,34 @@ pub name-other : (pool : List Constant) (i : ℕ) → false ≡ isUtf8 (entry po
 unfolding nameFault
 name-other pool i e = rw (← e)
 
--- an entry's fault goes by its kind: e is the entry at hand, k what the code found it to be
-pub fault-as : (s : List ℕ) (pool : List Constant) (i r : ℕ) (e k : Entry) → constantOf s e ≡ entry pool i → e ≡ k → r ≡ constantFault pool (constantOf s k)
-    → r ≡ entryFault pool i
-unfolding entryFault
-fault-as s pool i r e k p q h = h ∙ ap (λ (y : Entry). constantFault pool (constantOf s y)) (sym q) ∙ ap (constantFault pool) p
+-- an entry's fault goes by its tag k, which stands at q
+module _ (s : List ℕ) (pool : List Constant) (i q k : ℕ) (p : constantAt s q ≡ entry pool i) (e : k ≡ getD s q 0) where
+  fault-as : (r : ℕ) (x : Constant) → entry pool i ≡ x → r ≡ constantFault pool x → r ≡ entryFault pool i
+  unfolding entryFault
+  fault-as r x z h = h ∙ ap (constantFault pool) (sym z)
+
+  pub fault-class : (r a : ℕ) → k ≡ 7 → a ≡ u2At s (q + 1) → r ≡ nameFault pool a → r ≡ entryFault pool i
+  fault-class r a t x h = fault-as r (classAt a) (at-class s q (entry pool i) k p e a t x) h
+
+  module _ (r a b : ℕ) (x : a ≡ u2At s (q + 1)) (y : b ≡ u2At s (q + 3)) where
+    pub fault-field : k ≡ 9 → r ≡ pairFault (isClass (entry pool a)) (isNameAndType (entry pool b)) → r ≡ entryFault pool i
+    fault-field t h = fault-as r (fieldref a b) (at-field s q (entry pool i) k p e a b t x y) h
+
+    pub fault-method : k ≡ 10 → r ≡ pairFault (isClass (entry pool a)) (isNameAndType (entry pool b)) → r ≡ entryFault pool i
+    fault-method t h = fault-as r (methodref a b) (at-method s q (entry pool i) k p e a b t x y) h
+
+    pub fault-pair : k ≡ 12 → r ≡ pairFault (isUtf8 (entry pool a)) (isUtf8 (entry pool b)) → r ≡ entryFault pool i
+    fault-pair t h = fault-as r (nameAndType a b) (at-pair s q (entry pool i) k p e a b t x y) h
+
+  pub fault-other : (k ≡ 7 → ⊥) → (k ≡ 9 → ⊥) → (k ≡ 10 → ⊥) → (k ≡ 12 → ⊥) → 0 ≡ entryFault pool i
+  unfolding entryFault constantAt
+  fault-other n7 n9 n10 n12 =
+      (rw (← e, ne-eqb k 7 n7, ne-eqb k 9 n9, ne-eqb k 10 n10, ne-eqb k 12 n12) (go (eqb k 1) (eqb k 3))) ∙ ap (constantFault pool) p
+    where
+      go : (a b : Bool) → 0 ≡ constantFault pool (cond a (utf8 (part s (q + 3) (u2At s (q + 1)))) (cond b (integer (u4At s (q + 1))) absent))
+      go true b = refl
+      go false true = refl
+      go false false = refl
 
 -- a loop that counts i up to the count n
 pub faults-start : (s t : List ℕ) (n : ℕ) → n ≡ length t / 4 → firstNot (sound (poolIn s t)) (n - 0) 0 ≡ firstFault (poolIn s t)

@@ -5,6 +5,7 @@ pub mod Shapes
 pub mod Counted
 pub mod Pool
 pub mod Table
+pub mod Tags
 pub mod Faults
 pub mod PoolEnds
 pub mod Members

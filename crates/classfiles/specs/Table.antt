@@ -101,20 +101,6 @@ module _ (s t : List ℕ) where
 
 pub ruleset entries = (entry-none, entry-past, entry-in)
 
--- a text that is cut where the bytes end
-module _ (s : List ℕ) (a n : ℕ) where
-  pub text-past : length s < a → utf8 (part s 0 0) ≡ utf8 (part s a n)
-  unfolding part
-  text-past h =
-      let l : length s ≤ a = omega arith in
-      let e : drop a s ≡ [] = drop-of-length-le s l in
-      ap utf8 (sym (ap (take n) e ∙ take-nil n))
-
-  pub text-cut : a ≤ length s → length s - a < n → utf8 (part s a (length s - a)) ≡ utf8 (part s a n)
-  unfolding part
-  text-cut h l =
-      ap utf8 (take-all (length s - a) (drop a s) (simp length-drop (omega arith)) ∙ sym (take-all n (drop a s) (simp length-drop (omega arith))))
-
 -- a text, a byte at a time
 pub text-by : (s : List ℕ) (q n : ℕ) (r : Bool) → r ≡ allOf (λ i. textByte s (q + i)) n → r ≡ textOk s q n
 unfolding textOk textByte
@@ -178,51 +164,16 @@ no-text (fieldref i j) e = refl
 no-text (methodref i j) e = refl
 no-text (nameAndType i j) e = refl
 
-module _ (s : List ℕ) (e : Entry) (x : Constant) (p : constantOf s e ≡ x) where
-  pub text-is : (a n : ℕ) → e ≡ Utf8 a n → textOf x ≡ part s a n
-  text-is a n k = ap textOf (sym p) ∙ ap (λ (y : Entry). textOf (constantOf s y)) k
-
-  pub name-is : (i : ℕ) → e ≡ Class i → nameIndex x ≡ i
-  name-is i k = ap nameIndex (sym p) ∙ ap (λ (y : Entry). nameIndex (constantOf s y)) k
-
--- whether it starts an array's descriptor
-module _ (pool : List Constant) (i : ℕ) where
-  array-none : textOf (entry pool i) ≡ [] → false ≡ isArrayName (text pool i)
-  unfolding isArrayName text
-  array-none e = ap isArrayName (sym e)
-
-  pub array-no : false ≡ isUtf8 (entry pool i) → false ≡ isArrayName (text pool i)
-  array-no e = array-none (no-text (entry pool i) e)
-
-  module _ (s : List ℕ) (a n : ℕ) (e : textOf (entry pool i) ≡ part s a n) where
-    pub array-empty : n ≡ 0 → false ≡ isArrayName (text pool i)
-    unfolding isArrayName text part
-    array-empty z = array-none (e ∙ ap (part s a) z)
-
-    pub array-byte : (k : ℕ) → (n ≡ 0 → ⊥) → k ≡ getD s a 0 → eqb k 91 ≡ isArrayName (text pool i)
-    unfolding isArrayName text part
-    array-byte k z h =
-        let w : 0 < n = pos n z in
-        let y : a + 0 ≡ a = omega arith in
-        ap (λ (m : ℕ). eqb m 91)
-        (h ∙ ap (λ (m : ℕ). getD s m 0) (sym y) ∙ sym (getD-part a n s 0 0 w) ∙ ap (λ (l : List ℕ). getD l 0 0) (sym e))
-      where
-        pos : (n : ℕ) → (n ≡ 0 → ⊥) → 0 < n
-        pos zero f = absurd (f refl)
-        pos (suc n) f = omega arith
-
-  pub class-text : (name : ℕ) (r : Bool) → nameIndex (entry pool i) ≡ name → r ≡ isArrayName (text pool name) → r ≡ isArrayName (classText pool i)
-  unfolding classText
-  class-text name r e h = h ∙ ap (λ (k : ℕ). isArrayName (text pool k)) (sym e)
+-- whether a Class's text starts an array's descriptor
+pub class-text : (pool : List Constant) (i name : ℕ) (r : Bool) → nameIndex (entry pool i) ≡ name → r ≡ isArrayName (text pool name) → r ≡ isArrayName (classText pool i)
+unfolding classText
+class-text pool i name r e h = h ∙ ap (λ (k : ℕ). isArrayName (text pool k)) (sym e)
 
 -- a table of no tags but number 0's, which is 0
 pub first-tag : (t u : List ℕ) → u ≡ putWord t 0 0 → 4 ≤ length t → take 1 (words u) ≡ 0 ∷ []
 first-tag t u e h =
     ap (λ (l : List ℕ). take 1 (words l)) e ∙ ap (take 1) (words-put t 0 0 (omega arith))
     ∙ take-suc-set (words t) 0 0 (rw (length-words t) (omega arith))
-
-pub inside-is : (end : ℕ) (e : Entry) (a n : ℕ) → Inside end e → e ≡ Utf8 a n → a + n ≤ end
-inside-is end e a n h k = subst (Inside end) k h
 
 -- a part of the bytes that is this text, in the form that the checker has of a part that is lent
 pub record IsText (s : List ℕ) (r : Span) (t : List ℕ) : Type 0 where
@@ -233,16 +184,47 @@ pub record IsText (s : List ℕ) (r : Span) (t : List ℕ) : Type 0 where
 abbrev pub span : ℕ → ℕ → Span
 span a e = record { start = a; end = e }
 
+-- a part that is cut where the bytes end
+module _ (s : List ℕ) (a k : ℕ) where
+  pub cut-none : length s < a → IsText s (span 0 0) (part s a k)
+  unfolding part
+  cut-none h =
+      let l : length s ≤ a = omega arith in
+      let e : drop a s ≡ [] = drop-of-length-le s l in
+      record { is = sym (ap (take k) e ∙ take-nil k); order = omega arith; inside = omega arith }
+
+  pub cut-short : a ≤ length s → length s - a < k → IsText s (span a (length s)) (part s a k)
+  unfolding part
+  cut-short h l = record {
+    is = take-all (length s - a) (drop a s) (omega (arith, length-drop a s)) ∙ sym (take-all k (drop a s) (omega (arith, length-drop a s)));
+    order = h;
+    inside = omega arith;
+  }
+
+  pub cut-whole : a ≤ length s → k ≤ length s - a → IsText s (span a (a + k)) (part s a k)
+  unfolding part
+  cut-whole h l = let z : a + k - a ≡ k = omega arith in record { is = ap (λ (j : ℕ). take j (drop a s)) z; order = omega arith; inside = omega arith }
+
+-- whether it starts an array's descriptor
+module _ (s : List ℕ) (r : Span) (t : List ℕ) (h : IsText s r t) where
+  pub array-empty : r .end ≤ r .start → false ≡ isArrayName t
+  unfolding isArrayName
+  array-empty l =
+      let z : r .end - r .start ≡ 0 = omega arith in
+      ap (λ (n : ℕ). isArrayName (take n (drop (r .start) s))) (sym z) ∙ ap isArrayName (h .is)
+
+  pub array-byte : (k : ℕ) → r .start < r .end → k ≡ getD s (r .start) 0 → eqb k 91 ≡ isArrayName t
+  unfolding isArrayName
+  array-byte k l e =
+      let z : r .start + 0 ≡ r .start = omega arith in
+      let w : 0 < r .end - r .start = omega arith in
+      ap (λ (m : ℕ). eqb m 91)
+      (e ∙ ap (λ (m : ℕ). getD s m 0) (sym z) ∙ sym (getD-part (r .start) (r .end - r .start) s 0 0 w) ∙ ap (λ (l : List ℕ). getD l 0 0) (h .is))
+
 module _ (s : List ℕ) (pool : List Constant) (i : ℕ) where
   pub text-none : false ≡ isUtf8 (entry pool i) → IsText s (span 0 0) (text pool i)
   unfolding text
   text-none e = record { is = sym (no-text (entry pool i) e); order = omega arith; inside = omega arith }
-
-  pub text-some : (e : Entry) (a n : ℕ) → constantOf s e ≡ entry pool i → Inside (length s) e → e ≡ Utf8 a n → IsText s (span a (a + n)) (text pool i)
-  unfolding text part
-  text-some e a n p h k =
-      let z : a + n - a ≡ n = omega arith in
-      record { is = ap (λ (m : ℕ). take m (drop a s)) z ∙ sym (text-is s e (entry pool i) p a n k); order = omega arith; inside = inside-is (length s) e a n h k }
 
   pub class-none : false ≡ isClass (entry pool i) → textOf (entry pool 0) ≡ [] → IsText s (span 0 0) (classText pool i)
   unfolding classText text

@@ -4,7 +4,8 @@ use texts::items;
 use texts::items::Got;
 ghost use mathlib.Core.Path.{_≡_};
 ghost use mathlib.Core.Bool.{true};
-ghost use Prim.Native.Nat.{_+_, _-_, _*_, _<_, _≤_};
+ghost use mathlib.Core.List.{List};
+ghost use Prim.Native.Nat.{ℕ, _+_, _-_, _*_, _^_, _<_, _≤_};
 ghost use lib.ListN.{length, take};
 ghost use Rattle.kit.specs.Words.{words};
 ghost use Rattle.texts.specs.Reading.{pre, many, part};
@@ -162,17 +163,33 @@ fn entries(s: &[u8], from: usize, n: usize, t: &mut [u8]) -> Got
     }
 }
 
-// A text's part, cut where the bundle ends.
+// n bytes from `from` on, cut where the bundle ends.
+pub fn cut(s: &[u8], from: usize, n: usize) -> Span
+    ensures { λ r. ⌜ IsText (now (s .entry)) r (part (now (s .entry)) from n) ⌝ }
+{
+    if s.len() < from {
+        return Span { start: 0, end: 0 };
+    }
+    if s.len() - from < n {
+        return Span {
+            start: from,
+            end: s.len(),
+        };
+    }
+    Span {
+        start: from,
+        end: from + n,
+    }
+}
+
 fn text_part(s: &[u8], from: usize, n: usize) -> Entry
     ensures { λ r. ⌜ (constantOf (now (s .entry)) r ≡ utf8 (part (now (s .entry)) from n)) × Inside (length (now (s .entry))) r ⌝ }
 {
-    if s.len() < from {
-        return Entry::Utf8(0, 0);
-    }
-    if s.len() - from < n {
-        return Entry::Utf8(from, s.len() - from);
-    }
-    Entry::Utf8(from, n)
+    let t = cut(s, from, n);
+    let a = t.start;
+    let e = t.end;
+    let size = e - a;
+    Entry::Utf8(a, size)
 }
 
 // The entry whose tag stands at `tag`.
@@ -217,54 +234,57 @@ pub fn entry_of(s: &[u8], tags: &[u8], i: usize) -> Entry
     Entry::Absent
 }
 
+// Where the tag of entry i stands, past every byte where there is no such entry.
+fn place(tags: &[u8], i: usize) -> usize
+    ensures { λ r. ⌜ ((s : List ℕ) → length s < 2 ^ 64 → constantAt s r ≡ entryIn s (now (tags .entry)) i) ⌝ }
+{
+    if i == 0 {
+        return 18446744073709551615;
+    }
+    if i < tags.len() / 4 {
+        return kit::word(tags, i) as usize;
+    }
+    18446744073709551615
+}
+
 pub fn is_utf8(s: &[u8], tags: &[u8], i: usize) -> bool
     ensures { λ r. ⌜ r ≡ isUtf8 (entryIn (now (s .entry)) (now (tags .entry)) i) ⌝ }
 {
-    let Entry::Utf8(_, _) = entry_of(s, tags, i) else {
-        return false;
-    };
-    true
+    kit::byte(s, place(tags, i)) == 1
 }
 
 pub fn is_class(s: &[u8], tags: &[u8], i: usize) -> bool
     ensures { λ r. ⌜ r ≡ isClass (entryIn (now (s .entry)) (now (tags .entry)) i) ⌝ }
 {
-    let Entry::Class(_) = entry_of(s, tags, i) else {
-        return false;
-    };
-    true
+    kit::byte(s, place(tags, i)) == 7
 }
 
 pub fn is_name_and_type(s: &[u8], tags: &[u8], i: usize) -> bool
     ensures { λ r. ⌜ r ≡ isNameAndType (entryIn (now (s .entry)) (now (tags .entry)) i) ⌝ }
 {
-    let Entry::NameAndType(_, _) = entry_of(s, tags, i) else {
-        return false;
-    };
-    true
+    kit::byte(s, place(tags, i)) == 12
 }
 
 // The text that entry i is, empty where it is none.
 pub fn text_of(s: &[u8], tags: &[u8], i: usize) -> Span
     ensures { λ r. ⌜ IsText (now (s .entry)) r (text (poolIn (now (s .entry)) (now (tags .entry))) i) ⌝ }
 {
-    let Entry::Utf8(a, n) = entry_of(s, tags, i) else {
-        return Span { start: 0, end: 0 };
-    };
-    Span {
-        start: a,
-        end: a + n,
+    let q = place(tags, i);
+    if kit::byte(s, q) == 1 {
+        return cut(s, q + 3, items::u2_at(s, q + 1));
     }
+    Span { start: 0, end: 0 }
 }
 
 // The text that the Class i names, empty where it is no Class.
 pub fn class_text_of(s: &[u8], tags: &[u8], i: usize) -> Span
     ensures { λ r. ⌜ IsText (now (s .entry)) r (classText (poolIn (now (s .entry)) (now (tags .entry))) i) ⌝ }
 {
-    let Entry::Class(name) = entry_of(s, tags, i) else {
-        return Span { start: 0, end: 0 };
-    };
-    text_of(s, tags, name)
+    let q = place(tags, i);
+    if kit::byte(s, q) == 7 {
+        return text_of(s, tags, items::u2_at(s, q + 1));
+    }
+    Span { start: 0, end: 0 }
 }
 
 // A number that has to name a Utf8.
@@ -275,18 +295,17 @@ pub fn utf8_index(s: &[u8], tags: &[u8], q: usize) -> Got
     if !i.ok {
         return i;
     }
-    let k = i.val;
-    let Entry::Utf8(_, _) = entry_of(s, tags, k) else {
+    if is_utf8(s, tags, i.val) {
         return Got {
-            ok: false,
-            val: 5,
-            at: q,
+            ok: true,
+            val: i.val,
+            at: i.at,
         };
-    };
+    }
     Got {
-        ok: true,
-        val: k,
-        at: i.at,
+        ok: false,
+        val: 5,
+        at: q,
     }
 }
 
@@ -294,27 +313,28 @@ pub fn utf8_index(s: &[u8], tags: &[u8], q: usize) -> Got
 fn is_array_name(s: &[u8], tags: &[u8], i: usize) -> bool
     ensures { λ r. ⌜ r ≡ isArrayName (text (poolIn (now (s .entry)) (now (tags .entry))) i) ⌝ }
 {
-    let Entry::Utf8(a, n) = entry_of(s, tags, i) else {
-        return false;
-    };
-    if n == 0 {
-        return false;
+    let t = text_of(s, tags, i);
+    let a = t.start;
+    let e = t.end;
+    if a < e {
+        return kit::byte(s, a) == 91;
     }
-    kit::byte(s, a) == 91
+    false
 }
 
 // this_class or super_class, whose number i stands at q and ends at e: a Class, and no array.
 pub fn class_index(s: &[u8], tags: &[u8], q: usize, i: usize, e: usize) -> Got
     ensures { λ r. ⌜ res r ≡ classIndexAt (now (s .entry)) (poolIn (now (s .entry)) (now (tags .entry))) q i e ⌝ }
 {
-    let Entry::Class(name) = entry_of(s, tags, i) else {
+    let p = place(tags, i);
+    if kit::byte(s, p) != 7 {
         return Got {
             ok: false,
             val: 5,
             at: q,
         };
-    };
-    if is_array_name(s, tags, name) {
+    }
+    if is_array_name(s, tags, items::u2_at(s, p + 1)) {
         return Got {
             ok: false,
             val: 7,
@@ -332,12 +352,12 @@ pub fn class_index(s: &[u8], tags: &[u8], q: usize, i: usize, e: usize) -> Got
 fn member_fault(s: &[u8], tags: &[u8], i: usize, j: usize) -> usize
     ensures { λ r. ⌜ r ≡ pairFault (isClass (entryIn (now (s .entry)) (now (tags .entry)) i)) (isNameAndType (entryIn (now (s .entry)) (now (tags .entry)) j)) ⌝ }
 {
-    let Entry::Class(_) = entry_of(s, tags, i) else {
+    if !is_class(s, tags, i) {
         return 5;
-    };
-    let Entry::NameAndType(_, _) = entry_of(s, tags, j) else {
+    }
+    if !is_name_and_type(s, tags, j) {
         return 5;
-    };
+    }
     0
 }
 
@@ -345,12 +365,12 @@ fn member_fault(s: &[u8], tags: &[u8], i: usize, j: usize) -> usize
 fn texts_fault(s: &[u8], tags: &[u8], i: usize, j: usize) -> usize
     ensures { λ r. ⌜ r ≡ pairFault (isUtf8 (entryIn (now (s .entry)) (now (tags .entry)) i)) (isUtf8 (entryIn (now (s .entry)) (now (tags .entry)) j)) ⌝ }
 {
-    let Entry::Utf8(_, _) = entry_of(s, tags, i) else {
+    if !is_utf8(s, tags, i) {
         return 5;
-    };
-    let Entry::Utf8(_, _) = entry_of(s, tags, j) else {
+    }
+    if !is_utf8(s, tags, j) {
         return 5;
-    };
+    }
     0
 }
 
@@ -367,10 +387,13 @@ fn all_tags(s: &[u8], from: usize, n: usize, t: &mut [u8]) -> Got
 fn name_fault(s: &[u8], tags: &[u8], i: usize) -> usize
     ensures { λ r. ⌜ r ≡ nameFault (poolIn (now (s .entry)) (now (tags .entry))) i ⌝ }
 {
-    let Entry::Utf8(a, n) = entry_of(s, tags, i) else {
+    let q = place(tags, i);
+    if kit::byte(s, q) != 1 {
         return 5;
-    };
-    let e = a + n;
+    }
+    let t = cut(s, q + 3, items::u2_at(s, q + 1));
+    let a = t.start;
+    let e = t.end;
     let g = descriptors::class_type(&s[a..e], 0);
     if g.ok {
         return 0;
@@ -381,30 +404,21 @@ fn name_fault(s: &[u8], tags: &[u8], i: usize) -> usize
 fn entry_fault(s: &[u8], tags: &[u8], i: usize) -> usize
     ensures { λ r. ⌜ r ≡ entryFault (poolIn (now (s .entry)) (now (tags .entry))) i ⌝ }
 {
-    let e = entry_of(s, tags, i);
-    match e {
-        Entry::Absent => {
-            return 0;
-        }
-        Entry::Utf8(_, _) => {
-            return 0;
-        }
-        Entry::Integer(_) => {
-            return 0;
-        }
-        Entry::Class(name) => {
-            return name_fault(s, tags, name);
-        }
-        Entry::Field(class, member) => {
-            return member_fault(s, tags, class, member);
-        }
-        Entry::Method(class, member) => {
-            return member_fault(s, tags, class, member);
-        }
-        Entry::NameAndType(name, descriptor) => {
-            return texts_fault(s, tags, name, descriptor);
-        }
+    let q = place(tags, i);
+    let kind = kit::byte(s, q);
+    if kind == 7 {
+        return name_fault(s, tags, items::u2_at(s, q + 1));
     }
+    if kind == 9 {
+        return member_fault(s, tags, items::u2_at(s, q + 1), items::u2_at(s, q + 3));
+    }
+    if kind == 10 {
+        return member_fault(s, tags, items::u2_at(s, q + 1), items::u2_at(s, q + 3));
+    }
+    if kind == 12 {
+        return texts_fault(s, tags, items::u2_at(s, q + 1), items::u2_at(s, q + 3));
+    }
+    0
 }
 
 fn sound(s: &[u8], tags: &[u8], i: usize) -> bool

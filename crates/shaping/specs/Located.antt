@@ -1,12 +1,11 @@
 -- A method's parts as the code finds them, and that they are the program's; what has to stand in the scratch for that. Assumes nothing.
 use Prim.Native.Nat.{ℕ, _+_, _-_, _*_, _^_, _<_, _≤_}
 use mathlib.Core.Path.{_≡_, refl, sym, ap, subst, _∙_}
-use mathlib.Core.List.{List, []}
+use mathlib.Core.List.{List}
 use mathlib.Core.Bool.{Bool, true, false, not}
 use native.Mathlib.Omega.{arith}
 use lib.Dec.{eqb}
-use lib.ListN.{length, take, drop, length-drop, drop-of-length-le}
-use lib.Seq.{take-all, take-nil}
+use lib.ListN.{length, take, drop}
 use borrow.Author.Tests.{eqb-true, eq-eqb, ne-eqb, not-false}
 use Rattle.kit.specs.Bools.{not-so}
 use Rattle.kit.specs.Lists.{length-part}
@@ -14,7 +13,7 @@ use Rattle.kit.specs.Words.{word}
 use Rattle.classfiles.specs.Limits.{maxStackLimit, maxLocalsLimit, maxCode, maxTableEntries}
 use Rattle.texts.specs.Reading.{u2At, u4At, part}
 use Rattle.texts.specs.Names.{isInit}
-use Rattle.classfiles.specs.Table.{IsText, span}
+use Rattle.classfiles.specs.Table.{IsText}
 use Rattle.classfiles.specs.Members.{Found, Body}
 use Rattle.classfiles.specs.Attributes.{foundOf, handlersFrom, tableFrom, bodyOf, memberOf}
 use Rattle.reader.specs.BuiltIns.{firstClass}
@@ -78,27 +77,6 @@ pub record PartsOf (s b : List ℕ) (m : ℕ) (p : Parts) : Type 0 where
   pub framesFrom : p .frames ≤ p .last
   pub framesTo : p .last ≤ length s
   pub table : p .table ≤ 2 ^ 34
-
--- ---- a part that is cut where the bytes end
-module _ (s : List ℕ) (a k : ℕ) where
-  pub part-none : length s < a → IsText s (span 0 0) (part s a k)
-  unfolding part
-  part-none h =
-      let l : length s ≤ a = omega arith in
-      let e : drop a s ≡ [] = drop-of-length-le s l in
-      record { is = sym (ap (take k) e ∙ take-nil k); order = omega arith; inside = omega arith }
-
-  pub part-cut : a ≤ length s → length s - a < k → IsText s (span a (length s)) (part s a k)
-  unfolding part
-  part-cut h l = record {
-    is = take-all (length s - a) (drop a s) (omega (arith, length-drop a s)) ∙ sym (take-all k (drop a s) (omega (arith, length-drop a s)));
-    order = h;
-    inside = omega arith;
-  }
-
-  pub part-whole : a ≤ length s → k ≤ length s - a → IsText s (span a (a + k)) (part s a k)
-  unfolding part
-  part-whole h l = let z : a + k - a ≡ k = omega arith in record { is = ap (λ (j : ℕ). take j (drop a s)) z; order = omega arith; inside = omega arith }
 
 -- ---- the parts
 found-other : {A : Type 0} (k : ℕ) (v w : A) → (k ≡ 1 → ⊥) → foundOf k v ≡ foundOf k w

@@ -1,5 +1,5 @@
 // Where the parts of a method stand in the bundle.
-use classfiles::pool::Span;
+use classfiles::pool::cut;
 use reader::access;
 use reader::overriding;
 use reader::signature;
@@ -10,8 +10,6 @@ ghost use mathlib.Core.Path.{_≡_};
 ghost use mathlib.Core.Bool.{true};
 ghost use Prim.Native.Nat.{_*_, _<_, _≤_};
 ghost use lib.ListN.{length};
-ghost use Rattle.texts.specs.Reading.{part};
-ghost use Rattle.classfiles.specs.Table.{IsText};
 ghost use Rattle.classfiles.specs.Blocks.{blockSize};
 ghost use Rattle.reader.specs.MemberRows.{blockAt, rowCount};
 ghost use Rattle.rules.specs.Sites.{KnowsInit};
@@ -28,25 +26,6 @@ pub struct Parts {
     pub tables: usize,
     pub frames: usize,
     pub last: usize,
-}
-
-// k bytes from a on, cut where the bundle ends.
-fn part(s: &[u8], a: usize, k: usize) -> Span
-    ensures { λ r. ⌜ IsText (now (s .entry)) r (part (now (s .entry)) a k) ⌝ }
-{
-    if s.len() < a {
-        return Span { start: 0, end: 0 };
-    }
-    if s.len() - a < k {
-        return Span {
-            start: a,
-            end: s.len(),
-        };
-    }
-    Span {
-        start: a,
-        end: a + k,
-    }
 }
 
 fn parts_of(s: &[u8], t: &[u8], c: usize, m: usize) -> Parts
@@ -69,12 +48,12 @@ fn parts_of(s: &[u8], t: &[u8], c: usize, m: usize) -> Parts
     }
     let q = access::method_word(t, c, m, 2);
     let size = items::u4_at(s, q + 4);
-    let code = part(s, q + 8, size);
+    let code = cut(s, q + 8, size);
     let table = q + 8 + size;
     let tables = access::method_word(t, c, m, 3);
     let a = access::method_word(t, c, m, 4);
     let k = access::method_word(t, c, m, 5);
-    let frames = part(s, a, k);
+    let frames = cut(s, a, k);
     Parts {
         stack: items::u2_at(s, q),
         locals: items::u2_at(s, q + 2),

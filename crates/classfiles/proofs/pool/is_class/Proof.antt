@@ -1,19 +1,19 @@
-use Rattle.classfiles.proofs.pool.Asked.{no-class, a-class}
+use Rattle.classfiles.specs.Tags.{class-test}
 use borrow.Author.Needs.{needs}
 use Rattle.classfiles.proofs.pool.is_class.Statement.{statement}
 use Rattle.classfiles.proofs.pool.is_class.Tie as tie
 
-entry-of-requires : tie.Need-entry-of-requires
-entry-of-requires c κs = search needs
+place-requires : tie.Need-place-requires
+place-requires c κs = search needs
 
-enum-told : tie.Need-enum-told
-enum-told c = search needs
+byte-requires : tie.Need-byte-requires
+byte-requires c κs = search needs
 
 returns : tie.Need-returns
-returns c = no-class (c .before .before .before .before .args .s .now) (c .before .entry-of .result) _ (c .before .entry-of .ensures .0) (c .match .keys2)
-
-returns-2 : tie.Need-returns-2
-returns-2 c = a-class (c .before .before .before .before .before .args .s .now) (c .before .before .entry-of .result) _ (c .before .before .entry-of .ensures .0) _ (c .enum-told .given .1)
+returns c =
+    let b1 = c .before in
+    let b4 = b1 .before .before .before in
+    class-test (b4 .args .s .now) (b1 .place .result) _ (c .byte .result) (b1 .place .ensures (b4 .args .s .now) (b4 .good .0 .0)) (c .byte .ensures .0)
 
 pub is-class-spec : {M : Type 1} → statement M
-is-class-spec = tie.close (tie.spec entry-of-requires enum-told returns returns-2)
+is-class-spec = tie.close (tie.spec place-requires byte-requires returns)

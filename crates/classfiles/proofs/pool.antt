@@ -1,2 +1,0 @@
--- What the proofs of this room share.
-pub mod Asked
