@@ -6,6 +6,7 @@ use mathlib.Core.List.{[]}
 use mathlib.Core.Logic.{_⊎_, inl, inr}
 use lib.ListN.{length}
 use lib.Dec.{T, eqb, eqb→eq, eqb-refl}
+use Rattle.kit.specs.Bools.{true-T}
 use Rattle.texts.specs.Names.{Text, init}
 use Rattle.classfiles.specs.Limits.{maxClasses}
 use Rattle.classfiles.specs.Descriptors.{Ref, cls, arr, Desc, dint, dref, methodTypeAt}
@@ -13,6 +14,7 @@ use Rattle.reader.specs.BuiltIns.{throwable, firstClass}
 use Rattle.reader.specs.Program.{Program, methodTypeOr, class, method, classCount, isConstructor, upTo, below, methodSigs, lookup, layout}
 use Rattle.reader.specs.Link.{agrees}
 use Rattle.rules.specs.Types.{refFits, descFits}
+use Rattle.rules.specs.Ancestry.{below-self, ref-self}
 use Rattle.facts.specs.Base.{either-of, left-of, right-of}
 
 -- what reading and linking have shown
@@ -44,8 +46,7 @@ module _ (P : Program) where
   up-refl (suc f) a = left-of (eqb a a) _ (eqb-refl a)
 
   pub below-refl : (a : ℕ) → T (below P a a)
-  unfolding below
-  below-refl a = up-refl (classCount P) a
+  below-refl a = true-T (below P a a) (below-self P a)
 
   up-trans : (f a b : ℕ) → T (upTo P f a b) → (g c : ℕ) → T (upTo P g b c) → (k : ℕ) × T (upTo P k a c)
   unfolding upTo
@@ -124,13 +125,5 @@ module _ (P : Program) where
       desc-trans (dref t) (dref u) dint p q = absurd q
       desc-trans (dref t) (dref u) (dref v) p q = ref-trans t u v p q
 
-  mutual
-    unfolding refFits descFits
-
-    pub ref-refl : (t : Ref) → T (refFits P t t)
-    ref-refl (cls a) = below-refl a
-    ref-refl (arr D) = desc-refl D
-
-    pub desc-refl : (D : Desc) → T (descFits P D D)
-    desc-refl dint = tt
-    desc-refl (dref t) = ref-refl t
+  pub ref-refl : (t : Ref) → T (refFits P t t)
+  ref-refl t = true-T (refFits P t t) (ref-self P t)

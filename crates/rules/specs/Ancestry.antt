@@ -1,5 +1,5 @@
 -- Parents of classes in a table of words, as a program of which nothing else is known; and that a program with those parents
--- has the same subclasses, so the same types fit. Assumes nothing.
+-- has the same subclasses, so the same types fit. Every type fits itself. Assumes nothing.
 use Prim.Native.Nat.{ℕ, zero, suc, _+_, _-_, _/_, _<_, _≤_}
 use mathlib.Core.Path.{_≡_, refl, sym, ap, _∙_}
 use mathlib.Core.Bool.{true, cond}
@@ -15,7 +15,8 @@ use Rattle.kit.specs.Pick.{side}
 use Rattle.kit.specs.Words.{word, word-out}
 use Rattle.classfiles.specs.Descriptors.{Ref, cls, arr, Desc, dint, dref}
 use Rattle.reader.specs.Program.{Program, Class, class, noClass, classCount, upTo, below}
-use Rattle.rules.specs.Types.{Ty, top, int, null, ini, uninit, refFits, descFits, fits}
+use Rattle.rules.specs.Types.{Key, at, self, Ty, top, int, null, ini, uninit, sameKey, refFits, descFits, fits}
+use Rattle.rules.specs.TypeWords.{typeOf}
 use Rattle.rules.specs.States.{State, state, slotsFit, stateFits}
 
 abbrev pub child : ℕ → Class
@@ -141,6 +142,38 @@ module _ (P Q : Program) (count : classCount P ≡ classCount Q) (parents : (c :
       let p : slotsFit P l m ≡ slotsFit Q l m = slots-same l m in
       let q : slotsFit P s r ≡ slotsFit Q s r = slots-same s r in
       cc
+
+-- ---- every type fits itself
+module _ (P : Program) where
+  pub below-self : (c : ℕ) → below P c c ≡ true
+  unfolding below
+  below-self c = up-hit P c c (classCount P) refl
+
+  mutual
+    unfolding refFits descFits
+
+    pub ref-self : (r : Ref) → refFits P r r ≡ true
+    ref-self (cls c) = below-self c
+    ref-self (arr d) = desc-self d
+
+    desc-self : (d : Desc) → descFits P d d ≡ true
+    desc-self dint = refl
+    desc-self (dref r) = ref-self r
+
+  key-self : (k : Key) → sameKey k k ≡ true
+  key-self (at L) = eq-eqb L L refl
+  key-self self = refl
+
+  pub fits-self : (t : Ty) → fits P t t ≡ true
+  unfolding fits
+  fits-self top = refl
+  fits-self int = refl
+  fits-self null = refl
+  fits-self (ini r) = ref-self r
+  fits-self (uninit k) = key-self k
+
+  pub fits-one : (a b : ℕ) → a ≡ b → true ≡ fits P (typeOf a) (typeOf b)
+  fits-one a b e = sym (ap (λ (w : ℕ). fits P (typeOf a) (typeOf w)) (sym e) ∙ fits-self (typeOf a))
 
 -- ---- a program whose parents stand in the table
 module _ (P : Program) (t : List ℕ) (x n : ℕ) (h : Parents P t x n) where

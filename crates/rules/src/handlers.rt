@@ -1,7 +1,9 @@
 // What a handler gets must fit its frame, for each entry of the exception table that covers an instruction.
 ghost use mathlib.Core.Path.{_≡_};
-ghost use Prim.Native.Nat.{_+_, _^_, _≤_};
+ghost use Prim.Native.Nat.{_+_, _^_, _<_, _≤_};
+ghost use lib.ListN.{length};
 ghost use Rattle.kit.specs.Claims.{is, verdict};
+ghost use Rattle.texts.specs.Reading.{u2At};
 ghost use Rattle.classfiles.specs.Attributes.{handlersFrom};
 ghost use Rattle.reader.specs.BuiltIns.{firstClass};
 ghost use Rattle.classfiles.specs.Descriptors.{cls};
@@ -43,11 +45,25 @@ fn catch_type(t: &[u8], x: Site, i: usize) -> Ty
     }
 }
 
-// The entry at q covers the offset o.
+// Two bytes that are there, high byte first.
+fn two(s: &[u8], q: usize) -> usize
+    requires { ⌜ q + 1 < length (now s) ⌝ }
+    ensures { λ r. ⌜ r ≡ u2At (now (s .entry)) q ⌝ }
+{
+    s[q] as usize * 256 + s[q + 1] as usize
+}
+
+// The entry at q covers the offset o; one test of the bundle's end serves for both bounds.
 fn covers(s: &[u8], q: usize, o: usize) -> bool
     requires { ⌜ q ≤ 2 ^ 63 + 256 ⌝ }
     ensures { λ r. ⌜ r ≡ covers o (entryAt (now (s .entry)) q) ⌝ }
 {
+    if q + 4 <= s.len() {
+        if two(s, q) <= o {
+            return o < two(s, q + 2);
+        }
+        return false;
+    }
     if u2_at(s, q) <= o {
         return o < u2_at(s, q + 2);
     }

@@ -216,7 +216,7 @@ pub fn fit_operand(t: &[u8], kin: Kin, h: Held, k: usize, w: Ty) -> u32
     requires { ⌜ Placed (now t) h ⌝ }
     ensures { λ r. ⌜ is r ≡ verdict (claim 16 (fits (lineage (now (t .entry)) (kin .at) (kin .count)) (operand k (operandsOf (now (t .entry)) h)) (typeOf (w .word))) ∷ []) ⌝ }
 {
-    if types::assignable(t, kin, peek(t, h, k), w) {
+    if types::same_or_assignable(t, kin, peek(t, h, k), w) {
         return 0;
     }
     16
@@ -247,7 +247,7 @@ fn fit_range(t: &[u8], kin: Kin, a: usize, b: usize, n: usize, hide: bool, key: 
         let v = Ty {
             word: kit::word(t, q),
         };
-        if !types::assignable(t, kin, veiled(u, hide, key), v) {
+        if !types::same_or_assignable(t, kin, veiled(u, hide, key), v) {
             return 16;
         }
         p += 1;
@@ -270,7 +270,7 @@ fn fit_stack(t: &[u8], kin: Kin, a: usize, b: usize, d: usize) -> u32
         let v = Ty {
             word: kit::word(t, b + (left - 1)),
         };
-        if !types::assignable(t, kin, u, v) {
+        if !types::same_or_assignable(t, kin, u, v) {
             return 16;
         }
         left -= 1;
@@ -327,7 +327,7 @@ pub fn fit_caught(t: &[u8], kin: Kin, h: Held, f: Held, hide: bool, key: Ty, w: 
         return 16;
     }
     let a = fit_locals(t, kin, h, f, hide, key);
-    if types::assignable(t, kin, w, peek(t, f, 0)) {
+    if types::same_or_assignable(t, kin, w, peek(t, f, 0)) {
         return a;
     }
     first(a, 16)

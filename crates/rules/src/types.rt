@@ -332,3 +332,13 @@ pub fn assignable(t: &[u8], kin: Kin, a: Ty, b: Ty) -> bool
     }
     a.is_uninit(b)
 }
+
+// The same, at once where both are one type, as they mostly are.
+pub fn same_or_assignable(t: &[u8], kin: Kin, a: Ty, b: Ty) -> bool
+    ensures { λ r. ⌜ r ≡ fits (lineage (now (t .entry)) (kin .at) (kin .count)) (typeOf (a .word)) (typeOf (b .word)) ⌝ }
+{
+    if a.word == b.word {
+        return true;
+    }
+    assignable(t, kin, a, b)
+}

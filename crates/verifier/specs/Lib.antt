@@ -2,8 +2,10 @@ pub mod Fronts
 pub mod Callees
 pub mod Preparing
 pub mod Lineup
+pub mod Arrivals
 pub mod Walks
 pub mod Quick
+pub mod QuickNames
 pub mod Starts
 pub mod MethodWalks
 pub mod TypedTables

@@ -12,7 +12,7 @@ use lib.Seq.{getD-take}
 use borrow.Author.Tests.{lt-ltb, le-ltb}
 use Rattle.kit.specs.Pick.{side}
 use Rattle.kit.specs.Words.{word, word-take}
-use Rattle.kit.specs.Claims.{Claim, Ruling, is, verdict, then, verdict-append, is-zero, is-not, pass-then, fail-then}
+use Rattle.kit.specs.Claims.{Claim, Ruling, pass, is, verdict, then, verdict-append, is-zero, is-not, pass-then, fail-then}
 use Rattle.reader.specs.BuiltIns.{firstClass}
 use Rattle.classfiles.specs.Members.{Body}
 use Rattle.classfiles.specs.Attributes.{handlersFrom}
@@ -142,6 +142,18 @@ meets-lineage P t x n p none (some F) = refl
 meets-lineage P t x n p (some S) none = refl
 meets-lineage P t x n p (some S) (some F) = states-lineage P t x n p S F
 
+-- where what came has met the frame, the instruction's claims are left
+module _ (P : Program) (M : Method) (t : List ℕ) (f : Rows) (o : ℕ) (c : Option State) (S : State) (S-is : merged c (frameAt (framesOf t f) o) ≡ S) where
+  pub claims-left : verdict (meets P c (frameAt (framesOf t f) o)) ≡ pass → verdict (instructionClaims P M (framesOf t f) o (instruction P M o) S) ≡ verdict (lineClaims P M t f o c)
+  unfolding lineClaims
+  claims-left m =
+      ap (λ (T : State). verdict (instructionClaims P M (framesOf t f) o (instruction P M o) T)) (sym S-is)
+      ∙ sym (verdict-append (meets P c (frameAt (framesOf t f) o)) _ ∙ pass-then _ _ m)
+
+  pub after-left : onward (instruction P M o) (rule P M o (instruction P M o) S .after) ≡ lineAfter P M t f o c
+  unfolding lineAfter
+  after-left = ap (λ (T : State). onward (instruction P M o) (rule P M o (instruction P M o) T .after)) (sym S-is)
+
 module _ (P : Program) (M : Method) (t : List ℕ) (f : Rows) (o : ℕ) (c : Option State) (n : ℕ) (p : Parents P t 25728 n) (a : ℕ)
     (m : is a ≡ verdict (meets (lineage t 25728 n) c (frameAt (framesOf t f) o))) where
   met : is a ≡ verdict (meets P c (frameAt (framesOf t f) o))
@@ -151,9 +163,8 @@ module _ (P : Program) (M : Method) (t : List ℕ) (f : Rows) (o : ℕ) (c : Opt
   unfolding lineClaims
   line-stop z = is-not a z ∙ sym (verdict-append (meets P c (frameAt (framesOf t f) o)) _ ∙ fail-then _ _ a (sym met ∙ is-not a z))
 
-  line-on : a ≡ 0 → verdict (instructionClaims P M (framesOf t f) o (instruction P M o) (merged c (frameAt (framesOf t f) o))) ≡ verdict (lineClaims P M t f o c)
-  unfolding lineClaims
-  line-on z = sym (verdict-append (meets P c (frameAt (framesOf t f) o)) _ ∙ pass-then _ _ (sym met ∙ is-zero a z))
+  pub line-on : a ≡ 0 → verdict (instructionClaims P M (framesOf t f) o (instruction P M o) (merged c (frameAt (framesOf t f) o))) ≡ verdict (lineClaims P M t f o c)
+  line-on z = claims-left P M t f o c _ refl (sym met ∙ is-zero a z)
 
   -- the scratch as it was decoded from, v, and as the step found it, u
   module _ (z : a ≡ 0) (s u : List ℕ) (x : Site) (h : Held) (i : code.Instr) (k : Known) (S : held u h ≡ merged c (frameAt (framesOf t f) o))
@@ -196,6 +207,11 @@ pub record Walking (s t : List ℕ) (x : Site) (kin : Kin) (f : Rows) (h : Held)
   pub kinCount : kin .count ≡ firstClass + x .classes
   pub bounded : Bounded s x
 
+-- the state has met what stands at o: no frame, or one that is the same
+pub record Entered (t : List ℕ) (f : Rows) (h : Held) (o : ℕ) : Type 0 where
+  pub met : (P : Program) → verdict (meets P (some (held t h)) (frameAt (framesOf t f) o)) ≡ pass
+  pub same : merged (some (held t h)) (frameAt (framesOf t f) o) ≡ held t h
+
 pub record LineDone (s t u : List ℕ) (x : Site) (f : Rows) (live : Bool) (h : Held) (o : ℕ) (r : Turn) : Type 0 where
   pub says : (P : Program) (M : Method) → Sited s t P M x → Typed t P (x .classes) → x .codes ≡ 1 → is (r .refusal) ≡ verdict (lineClaims P M t f o (current live (held t h)))
   pub leaves : (P : Program) (M : Method) → Sited s t P M x → Typed t P (x .classes) → x .codes ≡ 1 → r .refusal ≡ 0
@@ -231,7 +247,7 @@ beside-front t u h = take-less 260736 261024 t u (omega arith) (h .front)
 module _ (s t u : List ℕ) (x : Site) (kin : Kin) (f : Rows) (live : Bool) (h : Held) (o : ℕ) (w : Walking s t x kin f h) (a : ℕ) (g : Held)
     (m : is a ≡ verdict (meets (lineage t (kin .at) (kin .count)) (current live (held t h)) (frameAt (framesOf t f) o)))
     (l : a ≡ 0 → held u g ≡ merged (current live (held t h)) (frameAt (framesOf t f) o)) (go : Going h g) (out : Outside (h .at) t u) where
-  met-at : is a ≡ verdict (meets (lineage t 25728 (firstClass + x .classes)) (current live (held t h)) (frameAt (framesOf t f) o))
+  pub met-at : is a ≡ verdict (meets (lineage t 25728 (firstClass + x .classes)) (current live (held t h)) (frameAt (framesOf t f) o))
   met-at =
       m ∙ ap (λ (b : ℕ). verdict (meets (lineage t b (kin .count)) (current live (held t h)) (frameAt (framesOf t f) o))) (w .kinAt)
       ∙ ap (λ (b : ℕ). verdict (meets (lineage t 25728 b) (current live (held t h)) (frameAt (framesOf t f) o))) (w .kinCount)

@@ -9,7 +9,7 @@ use lib.Dec.{leb, T}
 use lib.ListN.{length, getD, take, drop, set}
 use borrow.Author.Tests.{le-leb, leb-true}
 use Rattle.kit.specs.Words.{word}
-use Rattle.kit.specs.Bools.{T-true, not-so}
+use Rattle.kit.specs.Bools.{T-true, true-T, not-so}
 use Rattle.kit.specs.Claims.{Claim, claim, Ruling, pass, is, verdict, then, is-zero, all-pass, AllT, pass-all, verdict-yes, verdict-none}
 use Rattle.reader.specs.BuiltIns.{firstClass}
 use Rattle.classfiles.specs.Attributes.{handlersFrom}
@@ -42,7 +42,7 @@ use Rattle.rules.specs.KnownLaws.{Told, left-known}
 use Rattle.rules.specs.StepClaims.{stepBy, step-jump, step-known, targetsOf, fallsOf, falls-of, no-jump, jump-branch, Going, going-on, going-same}
 use Rattle.rules.specs.Loads.{current}
 use Rattle.verifier.specs.Callees.{Typed}
-use Rattle.verifier.specs.Lineup.{lineClaims, lineAfter, Walking, LineDone, outside-front, walking-roomy}
+use Rattle.verifier.specs.Lineup.{lineClaims, lineAfter, claims-left, after-left, Walking, Entered, LineDone, outside-front, walking-roomy}
 use Rattle.rules.specs.declared.site.Site.{Site}
 use Rattle.rules.specs.declared.slots.Held.{Held}
 use Rattle.rules.specs.declared.frames.Rows.{Rows}
@@ -89,10 +89,7 @@ easy-none L fs t most h o i v e = record {
 pub said : (r : ℕ) (n : ℕ) (a b : ℕ) → is r ≡ verdict (claim n (leb a b) ∷ []) → r ≡ 0 → a ≤ b
 said r n a b h z = leb-true a b (T-true (leb a b) (pass-all (claim n (leb a b) ∷ []) (sym h ∙ is-zero r z) .0))
 
-yes : (b : Bool) → b ≡ true → T b
-yes b e = subst T (sym e) tt
-
-passes : (cs : List (Claim ℕ)) → AllT cs → is 0 ≡ verdict cs
+pub passes : (cs : List (Claim ℕ)) → AllT cs → is 0 ≡ verdict cs
 passes cs a = is-zero 0 refl ∙ sym (all-pass cs a)
 
 -- where no frame is asked for and control goes on
@@ -138,7 +135,7 @@ module _ (L : Program) (t : List ℕ) (h : Held) where
   unfolding operandsFit fits
   two-fit e = verdict-yes 16 _ _ (e .first) ∙ verdict-yes 16 _ [] (e .second) ∙ verdict-none
 
-  none-fits : verdict (operandsFit L 0 [] (operandsOf t h)) ≡ pass
+  pub none-fits : verdict (operandsFit L 0 [] (operandsOf t h)) ≡ pass
   unfolding operandsFit
   none-fits = verdict-none
 
@@ -226,7 +223,7 @@ module _ (L : Program) (fs : List Frame) (t u : List ℕ) (most : ℕ) (h : Held
   unfolding instrClaims instrAfter localClaims localAfter operandsFit targetsOf fallsOf
   loads-int j y q e p =
       easy-pushed L fs t u most h o (OnLocal (Iload j)) y v p refl refl
-      (λ m F. passes _ (yes _ (le-leb 0 (length (s t)) (omega arith)), (yes _ q, (yes _ (le-leb (suc (length (s t))) most (omega (arith, length-stack t (h .at + 32) (h .depth)))), tt))))
+      (λ m F. passes _ (true-T _ (le-leb 0 (length (s t)) (omega arith)), (true-T _ q, (true-T _ (le-leb (suc (length (s t))) most (omega (arith, length-stack t (h .at + 32) (h .depth)))), tt))))
       (λ F. rw e) l
 
   pub loads-reference : (j : ℕ) (y : Ty) → isReference (getD (localsOf t h) j top) ≡ true → y ≡ getD (localsOf t h) j top → Pushed t u most h y v
@@ -234,7 +231,7 @@ module _ (L : Program) (fs : List Frame) (t u : List ℕ) (most : ℕ) (h : Held
   unfolding instrClaims instrAfter localClaims localAfter operandsFit targetsOf fallsOf
   loads-reference j y q e p =
       easy-pushed L fs t u most h o (OnLocal (Aload j)) y v p refl refl
-      (λ m F. passes _ (yes _ (le-leb 0 (length (s t)) (omega arith)), (yes _ q, (yes _ (le-leb (suc (length (s t))) most (omega (arith, length-stack t (h .at + 32) (h .depth)))), tt))))
+      (λ m F. passes _ (true-T _ (le-leb 0 (length (s t)) (omega arith)), (true-T _ q, (true-T _ (le-leb (suc (length (s t))) most (omega (arith, length-stack t (h .at + 32) (h .depth)))), tt))))
       (λ F. rw e) l
 
   pub doubles : (y : Ty) → 1 ≤ h .depth → y ≡ operand 0 (operandsOf t h) → Pushed t u most h y v → Easy L fs t u most h o (OnStack Dup) v
@@ -243,10 +240,10 @@ module _ (L : Program) (fs : List Frame) (t u : List ℕ) (most : ℕ) (h : Held
       easy-pushed L fs t u most h o (OnStack Dup) y v p refl refl
       (λ m F.
       passes _ (
-        yes _ (le-leb 1 (length (s t)) (omega (arith, length-stack t (h .at + 32) (h .depth)))),
+        true-T _ (le-leb 1 (length (s t)) (omega (arith, length-stack t (h .at + 32) (h .depth)))),
         (
           tt,
-          (yes _ (le-leb (suc (length (s t))) most (omega (arith, length-stack t (h .at + 32) (h .depth)))), tt),
+          (true-T _ (le-leb (suc (length (s t))) most (omega (arith, length-stack t (h .at + 32) (h .depth)))), tt),
         ),
       ))
       (λ F. rw e) l
@@ -268,10 +265,10 @@ module _ (L : Program) (fs : List Frame) (t u : List ℕ) (most : ℕ) (h : Held
       easy-on L fs t u most h o (OnLocal (Istore j)) v refl refl
       (λ F.
       passes _ (
-        yes _ (le-leb 1 (length (s t)) (let b = q .depth in omega (arith, length-stack t (h .at + 32) (h .depth)))),
+        true-T _ (le-leb 1 (length (s t)) (let b = q .depth in omega (arith, length-stack t (h .at + 32) (h .depth)))),
         (
-          yes _ (q .first),
-          (yes _ (le-leb (length (drop 1 (s t))) most (let b = room-said r 0 1 a z in omega (arith, rest 1))), tt),
+          true-T _ (q .first),
+          (true-T _ (le-leb (length (drop 1 (s t))) most (let b = room-said r 0 1 a z in omega (arith, rest 1))), tt),
         ),
       ))
       (λ F. cut-state v 1 _ d f ∙ rw e) (omega arith) l out
@@ -283,12 +280,12 @@ module _ (L : Program) (fs : List Frame) (t u : List ℕ) (most : ℕ) (h : Held
       easy-on L fs t u most h o (OnLocal (Astore j)) v refl refl
       (λ F.
       passes _ (
-        yes _ (le-leb 1 (length (s t)) (omega (arith, length-stack t (h .at + 32) (h .depth)))),
+        true-T _ (le-leb 1 (length (s t)) (omega (arith, length-stack t (h .at + 32) (h .depth)))),
         (
           tt,
           (
-            yes _ q,
-            (yes _ (le-leb (length (drop 1 (s t))) most (let b = room-said r 0 1 a z in omega (arith, rest 1))), tt),
+            true-T _ q,
+            (true-T _ (le-leb (length (drop 1 (s t))) most (let b = room-said r 0 1 a z in omega (arith, rest 1))), tt),
           ),
         ),
       ))
@@ -301,10 +298,10 @@ module _ (L : Program) (fs : List Frame) (t u : List ℕ) (most : ℕ) (h : Held
       easy-on L fs t u most h o (OnLocal (Iinc j k)) v refl refl
       (λ F.
       passes _ (
-        yes _ (le-leb 0 (length (s t)) (omega arith)),
+        true-T _ (le-leb 0 (length (s t)) (omega arith)),
         (
-          yes _ q,
-          (yes _ (le-leb (length (s t)) most (let b = room-said r 0 0 a z in omega (arith, length-stack t (h .at + 32) (h .depth)))), tt),
+          true-T _ q,
+          (true-T _ (le-leb (length (s t)) most (let b = room-said r 0 0 a z in omega (arith, length-stack t (h .at + 32) (h .depth)))), tt),
         ),
       ))
       (λ F. rw (e, d)) (omega arith) l (rw e (outside-none (h .at) t))
@@ -374,7 +371,7 @@ module _ (t : List ℕ) (kin : Kin) (f : Rows) (most : ℕ) (h : Held) (p v : �
       jump-branch L fs (instrAfter F o (Jump b) (held t h)) 0 (Jump b) b p p refl
       (g .into z ∙ ap (λ (j : ℕ). verdict (intoFrame L (dropped j (held t h)) (frameAt fs p))) (sym n ∙ ap length (sym e))) refl q
 
-  jumped : (k : ℕ) (ts : List Ty) (b : Branch) (o : ℕ) → Goes t kin f most h k p v → branchTakes b ≡ ts → length ts ≡ k → k ≤ h .depth → verdict (operandsFit L 0 ts (operandsOf t h)) ≡ pass
+  pub jumped : (k : ℕ) (ts : List Ty) (b : Branch) (o : ℕ) → Goes t kin f most h k p v → branchTakes b ≡ ts → length ts ≡ k → k ≤ h .depth → verdict (operandsFit L 0 ts (operandsOf t h)) ≡ pass
       → p ∷ [] ≡ targets (branchOf b) → true ≡ falls (branchOf b) → Easy L fs t t most h o (Jump b) v
   unfolding instrClaims instrAfter fallsOf
   jumped k ts b o g e n m fit q d = record {
@@ -410,10 +407,10 @@ module _ (t : List ℕ) (kin : Kin) (f : Rows) (most : ℕ) (h : Held) (p v : �
   }
 
 -- ---- a line of the walk
--- a state is at hand, no frame stands at the offset, and the handlers ask nothing that fails
+-- a state is at hand that has met what stands at the offset, and the handlers ask nothing that fails
 pub record Open (s t : List ℕ) (x : Site) (kin : Kin) (f : Rows) (h : Held) (o : ℕ) : Type 0 where
   pub walking : Walking s t x kin f h
-  pub none : frameAt (framesOf t f) o ≡ none
+  pub entered : Entered t f h o
   pub handled : is 0 ≡ verdict (handlersBy (lineage t (kin .at) (kin .count)) (catchIn t (x .class) (firstClass + x .classes)) (framesOf t f) o (h .flag) (localsOf t h) (handlersFrom s (x .entries) (x .table)))
 
 pub record Tried (s t u : List ℕ) (x : Site) (f : Rows) (live : Bool) (h : Held) (o v : ℕ) : Type 0 where
@@ -423,6 +420,11 @@ pub record Tried (s t u : List ℕ) (x : Site) (f : Rows) (live : Bool) (h : Hel
 
 pub tried-none : (s t : List ℕ) (x : Site) (f : Rows) (live : Bool) (h : Held) (o v : ℕ) → v ≡ 65 → Tried s t t x f live h o v
 tried-none s t x f live h o v e = record { on = λ z. absurd (z e); off = λ z. absurd (omega arith); kept = λ z. refl }
+
+-- the turn, with the state's place as it was made
+pub tried-on : (s t u : List ℕ) (x : Site) (f : Rows) (live : Bool) (h : Held) (o v : ℕ) → Tried s t u x f live h o v → (v ≡ 65 → ⊥) → (v ≡ 64 → ⊥) → (q : Held) → q ≡ down h v
+    → LineDone s t u x f live h o (record { refusal = 0; live = true; held = q })
+tried-on s t u x f live h o v d a b q e = rw e (d .on a b)
 
 abbrev pub calls : code.Instr → Bool
 calls (Simple i) = false
@@ -436,17 +438,23 @@ calls Illegal = false
 calls Unresolved = false
 
 -- what this method returns is all that is known of it
-abbrev ownFacts : Method → Facts
+abbrev pub ownFacts : Method → Facts
 ownFacts M = record { results = M .results; params = []; gives = []; own = M .owner; made = 0 }
 
 module _ (s t u : List ℕ) (x : Site) (kin : Kin) (f : Rows) (h : Held) (o : ℕ) (i : code.Instr) (v : ℕ) (apt : Open s t x kin f h o)
-    (d : DecodedAt s t (x .class) (siteCode s x) o i) (plain : calls i ≡ false) (hide : hides i ≡ false)
-    (e : Easy (lineage t (kin .at) (kin .count)) (framesOf t f) t u (x .stack) h o i v) where
+    (d : DecodedAt s t (x .class) (siteCode s x) o i) (plain : calls i ≡ false) (hide : hides i ≡ false) where
   w : Walking s t x kin f h
   w = apt .walking
 
   abbrev Q : Program
   Q = lineage t (kin .at) (kin .count)
+
+  -- the operands pass, and so does what the targets ask
+  abbrev pub Asked : Facts → Type 0
+  Asked F = is 0 ≡ verdict (instrClaims Q (x .stack) F o i (held t h))
+
+  abbrev pub Led : Facts → Type 0
+  Led F = is 0 ≡ verdict (branchClaims Q (framesOf t f) (instrAfter F o i (held t h)) (targetsOf i))
 
   unseen : (F : Facts) → is 0 ≡ verdict (handlersBy Q (catchIn t (x .class) (firstClass + x .classes)) (framesOf t f) o (h .flag) (veil (hides i) (keyOf (operand (length (F .params)) (operandsOf t h))) (localsOf t h)) (handlersFrom s (x .entries) (x .table)))
   unseen F =
@@ -454,9 +462,9 @@ module _ (s t u : List ℕ) (x : Site) (kin : Kin) (f : Rows) (h : Held) (o : �
       ∙ ap (λ (l : List Ty). verdict (handlersBy Q (catchIn t (x .class) (firstClass + x .classes)) (framesOf t f) o (h .flag) l (handlersFrom s (x .entries) (x .table))))
       (sym (ap (λ (b : Bool). veil b (keyOf (operand (length (F .params)) (operandsOf t h))) (localsOf t h)) hide ∙ veil-no (keyOf (operand (length (F .params)) (operandsOf t h))) (localsOf t h)))
 
-  step : (v ≡ 65 → ⊥) → (F : Facts) → is 0 ≡ verdict (stepBy (lineage t 25728 (firstClass + x .classes)) (catchIn t (x .class) (firstClass + x .classes)) (framesOf t f) (handlersFrom s (x .entries) (x .table)) (x .stack) F o i (held t h))
-  step z F =
-      step-jump Q (catchIn t (x .class) (firstClass + x .classes)) (framesOf t f) (handlersFrom s (x .entries) (x .table)) (x .stack) F o i (held t h) 0 (e .asks z F) refl 0 (unseen F) refl 0 (e .jumps z F)
+  step : (F : Facts) → Asked F → Led F → is 0 ≡ verdict (stepBy (lineage t 25728 (firstClass + x .classes)) (catchIn t (x .class) (firstClass + x .classes)) (framesOf t f) (handlersFrom s (x .entries) (x .table)) (x .stack) F o i (held t h))
+  step F a b =
+      step-jump Q (catchIn t (x .class) (firstClass + x .classes)) (framesOf t f) (handlersFrom s (x .entries) (x .table)) (x .stack) F o i (held t h) 0 a refl 0 (unseen F) refl 0 b
       ∙ ap (λ (c : ℕ). verdict (stepBy (lineage t c (kin .count)) (catchIn t (x .class) (firstClass + x .classes)) (framesOf t f) (handlersFrom s (x .entries) (x .table)) (x .stack) F o i (held t h))) (w .kinAt)
       ∙ ap (λ (c : ℕ). verdict (stepBy (lineage t 25728 c) (catchIn t (x .class) (firstClass + x .classes)) (framesOf t f) (handlersFrom s (x .entries) (x .table)) (x .stack) F o i (held t h))) (w .kinCount)
 
@@ -468,54 +476,54 @@ module _ (s t u : List ℕ) (x : Site) (kin : Kin) (f : Rows) (h : Held) (o : �
     made-is = decoded s t P M x dt o i one d
 
     line-claims : verdict (instructionClaims P M (framesOf t f) o (instruction P M o) (held t h)) ≡ verdict (lineClaims P M t f o (current true (held t h)))
-    unfolding lineClaims
-    line-claims = rw (apt .none)
+    line-claims = claims-left P M t f o (some (held t h)) (held t h) (apt .entered .same) (apt .entered .met P)
 
     line-left : (X : Option State) → X ≡ cond (falls (instruction P M o)) (some (rule P M o (instruction P M o) (held t h) .after)) none → X ≡ lineAfter P M t f o (current true (held t h))
-    unfolding lineAfter
-    line-left X q = q ∙ rw (apt .none)
+    line-left X q = q ∙ after-left P M t f o (some (held t h)) (held t h) (apt .entered .same)
 
-    easy-says : (v ≡ 65 → ⊥) → is 0 ≡ verdict (lineClaims P M t f o (current true (held t h)))
+    pub line-says : Asked (ownFacts M) → Led (ownFacts M) → is 0 ≡ verdict (lineClaims P M t f o (current true (held t h)))
     unfolding siteBody
-    easy-says z =
-        step z (ownFacts M)
+    line-says a b =
+        step (ownFacts M) a b
         ∙ step-known P M t 25728 (firstClass + x .classes) (dt .parents) (catchIn t (x .class) (firstClass + x .classes)) (framesOf t f) (handlersFrom s (x .entries) (x .table)) (x .stack) (ownFacts M) o i
         (catch-is s t P M x dt) (sym (ap (λ (b : Body). b .table) (one-body s t P M x dt one))) (sym (ap (λ (b : Body). b .maxStack) (one-body s t P M x dt one))) (held t h) told
         ∙ ap (λ (j : Instr). verdict (instructionClaims P M (framesOf t f) o j (held t h))) made-is
         ∙ line-claims
 
-    easy-after : (v ≡ 65 → ⊥) → (v ≡ 64 → ⊥) → current true (held u (down h v)) ≡ lineAfter P M t f o (current true (held t h))
-    easy-after z y =
-        line-left (current true (held u (down h v)))
-        (ap (λ (b : Bool). current b (held u (down h v))) (e .falls z y ∙ falls-of i ∙ ap falls made-is)
-        ∙ ap (λ (T : State). current (falls (instruction P M o)) T)
-        (left-known P M t 25728 (firstClass + x .classes) (dt .parents) (ownFacts M) o i (h .flag) (localsOf t h) (operandsOf t h) told (held u (down h v)) (e .after z y (ownFacts M))
-        ∙ ap (λ (j : Instr). rule P M o j (held t h) .after) made-is))
-
-    easy-away : v ≡ 64 → current false (held u h) ≡ lineAfter P M t f o (current true (held t h))
-    easy-away y =
+    pub line-away : false ≡ fallsOf i → current false (held u h) ≡ lineAfter P M t f o (current true (held t h))
+    line-away e =
         line-left (current false (held u h))
-        (ap (λ (b : Bool). cond b (some (rule P M o (instruction P M o) (held t h) .after)) none) (e .stays y ∙ falls-of i ∙ ap falls made-is))
+        (ap (λ (b : Bool). cond b (some (rule P M o (instruction P M o) (held t h) .after)) none) (e ∙ falls-of i ∙ ap falls made-is))
+
+    line-on : true ≡ fallsOf i → held u (down h v) ≡ instrAfter (ownFacts M) o i (held t h) → current true (held u (down h v)) ≡ lineAfter P M t f o (current true (held t h))
+    line-on e a =
+        line-left (current true (held u (down h v)))
+        (ap (λ (b : Bool). current b (held u (down h v))) (e ∙ falls-of i ∙ ap falls made-is)
+        ∙ ap (λ (T : State). current (falls (instruction P M o)) T)
+        (left-known P M t 25728 (firstClass + x .classes) (dt .parents) (ownFacts M) o i (h .flag) (localsOf t h) (operandsOf t h) told (held u (down h v)) a
+        ∙ ap (λ (j : Instr). rule P M o j (held t h) .after) made-is))
 
   someFacts : Facts
   someFacts = record { results = []; params = []; gives = []; own = 0; made = 0 }
 
-  pub tried-easy : Tried s t u x f true h o v
-  tried-easy = record {
+  pub tried-easy : Easy (lineage t (kin .at) (kin .count)) (framesOf t f) t u (x .stack) h o i v → Tried s t u x f true h o v
+  tried-easy e = record {
     on = λ z y. record {
-      says = λ P M dt yt one. easy-says P M dt one z;
-      leaves = λ P M dt yt one q. easy-after P M dt one z y;
+      says = λ P M dt yt one. line-says P M dt one (e .asks z (ownFacts M)) (e .jumps z (ownFacts M));
+      leaves = λ P M dt yt one q. line-on P M dt one (e .falls z y) (e .after z y (ownFacts M));
       going =
           going-on Q (x .stack) someFacts o i (held t h) 0 (e .asks z someFacts) refl (w .bounded .stack) h (down h v) u
           (record { at = refl; locals = refl; depth = e .depth z y }) (e .after z y someFacts);
       front = outside-front t u (h .at) (w .at) (e .outside);
     };
-    off = λ y. record {
-      says = λ P M dt yt one. easy-says P M dt one (λ z. absurd (omega arith));
-      leaves = λ P M dt yt one q. easy-away P M dt one y;
-      going = going-same h (w .depth);
-      front = outside-front t u (h .at) (w .at) (e .outside);
-    };
+    off = λ y.
+        let z : v ≡ 65 → ⊥ = λ q. omega arith in
+        record {
+          says = λ P M dt yt one. line-says P M dt one (e .asks z (ownFacts M)) (e .jumps z (ownFacts M));
+          leaves = λ P M dt yt one q. line-away P M dt one (e .stays y);
+          going = going-same h (w .depth);
+          front = outside-front t u (h .at) (w .at) (e .outside);
+        };
     kept = e .kept;
   }
 
@@ -572,13 +580,13 @@ calm-ready s t x kin f h w =
     let r = walking-roomy s t x kin f h w in let b = w .bounded .table in let i = r .inside in
     (w .bounded .classes, w .laid, record { inside = omega arith; locals = r .locals; depth = r .depth }, omega arith, w .bounded .entries)
 
-pub tried-live : (s t u : List ℕ) (x : Site) (f : Rows) (live : Bool) (h : Held) (o v : ℕ) → live ≡ true → Tried s t u x f true h o v → Tried s t u x f live h o v
-tried-live s t u x f live h o v e d = rw e d
-
 -- where nothing was done
 module _ (s t t′ : List ℕ) (x : Site) (f : Rows) (h : Held) (e : t′ ≡ t) where
   pub walking-kept : (kin : Kin) → Walking s t x kin f h → Walking s t′ x kin f h
   walking-kept kin w = subst (λ (z : List ℕ). Walking s z x kin f h) (sym e) w
+
+  pub entered-kept : (o : ℕ) → Entered t f h o → Entered t′ f h o
+  entered-kept o w = subst (λ (z : List ℕ). Entered z f h o) (sym e) w
 
   pub line-kept : (u : List ℕ) (live : Bool) (o : ℕ) (r : Turn) → LineDone s t′ u x f live h o r → LineDone s t u x f live h o r
   line-kept u live o r d = subst (λ (z : List ℕ). LineDone s z u x f live h o r) e d

@@ -199,26 +199,10 @@ mid-start s t x f h g n len e = record {
 abbrev pub place : Held → ℕ → Bool → Held
 place h d b = record { at = h .at; locals = h .locals; depth = d; flag = b }
 
-abbrev pub turnOf : ℕ → Bool → Held → Turn
-turnOf n l q = record { refusal = n; live = l; held = q }
-
-held-parts : (h q : Held) → Going h q → record { at = h .at; locals = h .locals; depth = q .depth; flag = q .flag } ≡ q
+pub held-parts : (h q : Held) → Going h q → record { at = h .at; locals = h .locals; depth = q .depth; flag = q .flag } ≡ q
 held-parts h q g = rw (← g .at, ← g .locals)
-
-turn-parts : (k : Held) (r : Turn) (l : Bool) (d : ℕ) (b : Bool) → r .refusal ≡ 0 → l ≡ r .live → d ≡ r .held .depth → b ≡ r .held .flag → Going k (r .held)
-    → turnOf 0 l (place k d b) ≡ r
-turn-parts k r l d b z a c y g =
-    ap (λ (n : ℕ). turnOf n l (place k d b)) (sym z) ∙ ap (λ (m : Bool). turnOf (r .refusal) m (place k d b)) a
-    ∙ ap (λ (n : ℕ). turnOf (r .refusal) (r .live) (place k n b)) c ∙ ap (λ (m : Bool). turnOf (r .refusal) (r .live) (place k (r .held .depth) m)) y
-    ∙ ap (λ (q : Held). turnOf (r .refusal) (r .live) q) (held-parts k (r .held) g)
 
 -- the line as the loop keeps it
 module _ (s t u : List ℕ) (x : Site) (f : Rows) (live : Bool) (k g : Held) (e : g ≡ k) (o : ℕ) (r : Turn) (w : LineDone s t u x f live g o r) where
   pub line-as : LineDone s t u x f live k o r
   line-as = subst (λ (z : Held). LineDone s t u x f live z o r) e w
-
-  pub line-parts : (v : List ℕ) (l : Bool) (d : ℕ) (b : Bool) → v ≡ u → r .refusal ≡ 0 → l ≡ r .live → d ≡ r .held .depth → b ≡ r .held .flag
-      → LineDone s t v x f live k o (turnOf 0 l (place k d b))
-  line-parts v l d b p z a c y =
-      subst (λ (j : List ℕ). LineDone s t j x f live k o (turnOf 0 l (place k d b))) (sym p)
-      (subst (λ (q : Turn). LineDone s t u x f live k o q) (sym (turn-parts k r l d b z a c y (line-as .going))) line-as)

@@ -4,6 +4,7 @@ pub mod frame_forms;
 pub mod frame_reader;
 pub mod frame_table;
 pub mod quick;
+pub mod quick_names;
 pub mod start;
 pub mod typing;
 pub mod verify;

@@ -9,7 +9,11 @@ ghost use Rattle.rules.specs.Slots.{Roomy};
 ghost use Rattle.rules.specs.Sites.{siteCode};
 ghost use Rattle.rules.specs.ResolvedWords.{wordOf};
 ghost use Rattle.rules.specs.FrameRows.{Laid};
+ghost use Rattle.verifier.specs.QuickNames.{Idles, Pops};
 ghost use Rattle.verifier.specs.Quick.{Pushed, LoadsInt, LoadsReference, StoresInt, StoresReference, Adds, Doubles, Numbers, Goes, OneInt, TwoInts, Tests, Compares, Away, Open, Tried, targetAt};
+use crate::quick_names::names;
+use crate::quick_names::references;
+use crate::quick_names::returns;
 use rules::decode;
 use rules::decode::Bytes;
 use rules::frames::Rows;
@@ -28,7 +32,7 @@ use rules::types::Kin;
 use rules::types::Ty;
 
 // A type comes on the stack, where there is room.
-fn push(t: &mut [u8], h: Held, most: usize, w: Ty) -> usize
+pub fn push(t: &mut [u8], h: Held, most: usize, w: Ty) -> usize
     requires { ⌜ Roomy (now t) h × (h .depth ≤ 32) ⌝ }
     ensures { λ r. ⌜ Pushed (now (t .entry)) (now (t .exit)) most h (typeOf (w .word)) r ⌝ }
 {
@@ -121,6 +125,29 @@ fn increment(t: &[u8], h: Held, most: usize, j: u16) -> usize
     h.depth
 }
 
+fn nothing(t: &[u8], h: Held, most: usize) -> usize
+    requires { ⌜ Roomy (now t) h × (h .depth ≤ 32) ⌝ }
+    ensures { λ r. ⌜ Idles (now (t .entry)) most h r ⌝ }
+{
+    if room(h, 0, 0, most) != 0 {
+        return 65;
+    }
+    h.depth
+}
+
+fn pop(t: &[u8], h: Held, most: usize) -> usize
+    requires { ⌜ Roomy (now t) h × (h .depth ≤ 32) ⌝ }
+    ensures { λ r. ⌜ Pops (now (t .entry)) most h r ⌝ }
+{
+    if h.depth < 1 {
+        return 65;
+    }
+    if room(h, 1, 0, most) != 0 {
+        return 65;
+    }
+    h.depth - 1
+}
+
 // The two operands on top are ints.
 fn two_ints(t: &[u8], h: Held) -> bool
     requires { ⌜ Roomy (now t) h ⌝ }
@@ -137,7 +164,7 @@ fn two_ints(t: &[u8], h: Held) -> bool
     false
 }
 
-fn one_int(t: &[u8], h: Held) -> bool
+pub fn one_int(t: &[u8], h: Held) -> bool
     requires { ⌜ Roomy (now t) h ⌝ }
     ensures { λ r. ⌜ (r ≡ true → OneInt (now (t .entry)) h) ⌝ }
 {
@@ -164,7 +191,7 @@ fn numbers(t: &mut [u8], h: Held, most: usize) -> usize
 }
 
 // k operands go, and the state goes to the frame at a target.
-fn branch(t: &[u8], kin: Kin, f: Rows, h: Held, most: usize, k: usize, o: u16) -> usize
+pub fn branch(t: &[u8], kin: Kin, f: Rows, h: Held, most: usize, k: usize, o: u16) -> usize
     requires { ⌜ Roomy (now t) h × (h .depth ≤ 32) × Laid (now t) f ⌝ }
     ensures { λ r. ⌜ Goes (now (t .entry)) kin f most h k o r ⌝ }
 {
@@ -215,7 +242,7 @@ fn first(code: &[u8], o: u16) -> u8
 }
 
 // Where a branch at o leads.
-fn target(code: &[u8], o: u16) -> u16
+pub fn target(code: &[u8], o: u16) -> u16
     ensures { λ r. ⌜ r ≡ targetAt (now (code .entry)) o ⌝ }
 {
     let first = kit::byte(code, o as usize + 1) as u8;
@@ -318,7 +345,7 @@ fn stores(
     }
 }
 
-// Operands among themselves, and iinc.
+// Operands among themselves, iinc and nop.
 fn arithmetic(
     s: &[u8],
     t: &mut [u8],
@@ -334,6 +361,8 @@ fn arithmetic(
     ensures { λ r. ⌜ Tried (now (s .entry)) (now (t .entry)) (now (t .exit)) x f true h o r ⌝ }
 {
     match op {
+        0x00 => nothing(t, h, x.stack),
+        0x57 => pop(t, h, x.stack),
         0x59 => dup(t, h, x.stack),
         0x60 => numbers(t, h, x.stack),
         0x64 => numbers(t, h, x.stack),
@@ -433,10 +462,26 @@ pub fn quick(
             o,
             op,
         ),
-        0x59 | 0x60 | 0x64 | 0x68 | 0x6c | 0x70 | 0x78 | 0x7a | 0x7c | 0x7e | 0x80 | 0x82 | 0x84 =>
-            arithmetic(s, t, x, kin, f, h, code, o, op),
+        0x00
+        | 0x57
+        | 0x59
+        | 0x60
+        | 0x64
+        | 0x68
+        | 0x6c
+        | 0x70
+        | 0x78
+        | 0x7a
+        | 0x7c
+        | 0x7e
+        | 0x80
+        | 0x82
+        | 0x84 => arithmetic(s, t, x, kin, f, h, code, o, op),
         0x99 | 0x9a | 0x9b | 0x9c | 0x9d | 0x9e | 0x9f | 0xa0 | 0xa1 | 0xa2 | 0xa3 | 0xa4 | 0xa7 =>
             branches(s, t, x, kin, f, h, code, o, op),
+        0x12 | 0xb4 | 0xb5 | 0xbb => names(s, t, x, kin, f, h, code, o, op),
+        0x2e | 0x4f | 0xbe | 0xc6 | 0xc7 => references(s, t, x, kin, f, h, code, o, op),
+        0xac | 0xb0 | 0xb1 => returns(s, t, x, kin, f, h, code, o, op),
         _ => 65,
     }
 }

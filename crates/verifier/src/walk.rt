@@ -16,7 +16,7 @@ ghost use Rattle.rules.specs.Sites.{siteCode};
 ghost use Rattle.rules.specs.Known.{factsOf, instrAfter};
 ghost use Rattle.rules.specs.StepClaims.{stepBy, Going};
 ghost use Rattle.rules.specs.Loads.{current};
-ghost use Rattle.verifier.specs.Lineup.{Walking, LineDone};
+ghost use Rattle.verifier.specs.Lineup.{Walking, Entered, LineDone};
 ghost use Rattle.verifier.specs.Quick.{Tried};
 ghost use Rattle.verifier.specs.Walks.{Ended, Walked};
 ghost use Rattle.verifier.specs.MethodWalks.{Placeable, MethodWalked};
@@ -135,26 +135,17 @@ pub struct Turn {
     pub held: Held,
 }
 
-// The instruction at o, in the state h where one is live.
-fn one_line(s: &[u8], t: &mut [u8], x: Site, kin: Kin, f: Rows, live: bool, h: Held, o: u16) -> Turn
-    requires { ⌜ Walking (now s) (now t) x kin f h ⌝ }
-    ensures { λ r. ⌜ LineDone (now (s .entry)) (now (t .entry)) (now (t .exit)) x f live h o r ⌝ }
+// The instruction at o in the state h that it finds there, whatever it is.
+fn one_line(s: &[u8], t: &mut [u8], x: Site, kin: Kin, f: Rows, h: Held, o: u16) -> Turn
+    requires { ⌜ Walking (now s) (now t) x kin f h × Entered (now t) f h o ⌝ }
+    ensures { λ r. ⌜ LineDone (now (s .entry)) (now (t .entry)) (now (t .exit)) x f true h o r ⌝ }
 {
-    let e = enter(t, kin, f, live, h, o as usize);
-    let g = e.held;
-    if e.refusal != 0 {
-        return Turn {
-            refusal: e.refusal,
-            live: false,
-            held: g,
-        };
-    }
     let from = x.start;
     let to = x.end;
     let code = &s[from..to];
     let i = decode::instruction(s, t, x.class, code, o as usize);
-    let k = known(s, t, x, g, i);
-    let r = one_step(s, t, x, kin, f, g, i, k, o);
+    let k = known(s, t, x, h, i);
+    let r = one_step(s, t, x, kin, f, h, i, k, o);
     let q = r.held;
     Turn {
         refusal: r.refusal,
@@ -163,7 +154,7 @@ fn one_line(s: &[u8], t: &mut [u8], x: Site, kin: Kin, f: Rows, live: bool, h: H
     }
 }
 
-// ---- Lines that need no decoding. A row of the frames goes along with the walk, so that no frame is looked for where none stands.
+// ---- A row of the frames goes along with the walk, so that no frame is looked for where none stands.
 
 // The rows below this one stand before o.
 fn behind(t: &[u8], f: Rows, row: usize, o: usize) -> bool
@@ -209,6 +200,24 @@ fn past(t: &[u8], f: Rows, row: usize, o: usize) -> usize
     row + 1
 }
 
+// As `enter`, without looking for a frame where the row tells that none stands at o.
+fn arrive(t: &mut [u8], kin: Kin, f: Rows, live: bool, h: Held, o: usize, row: usize) -> Step
+    requires { ⌜ Roomy (now t) h × (h .depth ≤ 32) × Laid (now t) f × (f .locals ≡ h .locals) × (f .at + 68 * f .count + 68 ≤ h .at) ⌝ }
+    ensures says { λ r. ⌜ is (r .refusal) ≡ verdict (meets (lineage (now (t .entry)) (kin .at) (kin .count)) (current live (held (now (t .entry)) h)) (frameAt (framesOf (now (t .entry)) f) o)) ⌝ }
+    ensures leaves { λ r. ⌜ (r .refusal ≡ 0 → held (now (t .exit)) (r .held) ≡ merged (current live (held (now (t .entry)) h)) (frameAt (framesOf (now (t .entry)) f) o)) ⌝ }
+    ensures keeps { λ r. ⌜ Going h (r .held) × Outside (h .at) (now (t .entry)) (now (t .exit)) ⌝ }
+{
+    if live {
+        if ahead(t, f, row, o) {
+            return Step {
+                refusal: 0,
+                held: h,
+            };
+        }
+    }
+    enter(t, kin, f, live, h, o)
+}
+
 // The handlers ask nothing that fails, whatever is not a constructor's call stands at o.
 fn calm(s: &[u8], t: &[u8], x: Site, kin: Kin, f: Rows, h: Held, o: usize) -> bool
     requires { ⌜ Walking (now s) (now t) x kin f h ⌝ }
@@ -219,34 +228,6 @@ fn calm(s: &[u8], t: &[u8], x: Site, kin: Kin, f: Rows, h: Held, o: usize) -> bo
     }
     let r = all_handlers(s, t, x, kin, f, h, false, Ty::top(), o);
     r == 0
-}
-
-// The instruction at o by its opcode, where that is enough: the depth after it, 64 or 65.
-fn attempt(
-    s: &[u8],
-    t: &mut [u8],
-    x: Site,
-    kin: Kin,
-    f: Rows,
-    live: bool,
-    h: Held,
-    code: &[u8],
-    o: u16,
-    row: usize,
-) -> usize
-    requires { ⌜ Walking (now s) (now t) x kin f h × (now code ≡ siteCode (now s) x) ⌝ }
-    ensures { λ r. ⌜ Tried (now (s .entry)) (now (t .entry)) (now (t .exit)) x f live h o r ⌝ }
-{
-    if !live {
-        return 65;
-    }
-    if !ahead(t, f, row, o as usize) {
-        return 65;
-    }
-    if !calm(s, t, x, kin, f, h, o as usize) {
-        return 65;
-    }
-    quick(s, t, x, kin, f, h, code, o)
 }
 
 // A state at the code's end is 17 there.
@@ -277,6 +258,52 @@ fn placed(h: Held, depth: usize, flag: bool) -> Held
     }
 }
 
+// The line at o, from the state h where one is live: by the opcode, or decoded.
+fn line(
+    s: &[u8],
+    t: &mut [u8],
+    x: Site,
+    kin: Kin,
+    f: Rows,
+    live: bool,
+    h: Held,
+    code: &[u8],
+    o: u16,
+    row: usize,
+) -> Turn
+    requires { ⌜ Walking (now s) (now t) x kin f h × (now code ≡ siteCode (now s) x) ⌝ }
+    ensures { λ r. ⌜ LineDone (now (s .entry)) (now (t .entry)) (now (t .exit)) x f live h o r ⌝ }
+{
+    let e = arrive(t, kin, f, live, h, o as usize, row);
+    let g = e.held;
+    if e.refusal != 0 {
+        return Turn {
+            refusal: e.refusal,
+            live: false,
+            held: g,
+        };
+    }
+    if !calm(s, t, x, kin, f, g, o as usize) {
+        return one_line(s, t, x, kin, f, g, o);
+    }
+    let v = quick(s, t, x, kin, f, g, code, o);
+    if v == 65 {
+        return one_line(s, t, x, kin, f, g, o);
+    }
+    if v == 64 {
+        return Turn {
+            refusal: 0,
+            live: false,
+            held: g,
+        };
+    }
+    Turn {
+        refusal: 0,
+        live: true,
+        held: placed(g, v, g.flag),
+    }
+}
+
 // The walk over the code at x from the state h: lines in order, by offset.
 fn over_lines(s: &[u8], t: &mut [u8], x: Site, kin: Kin, f: Rows, h: Held) -> Ruled
     requires { ⌜ Walking (now s) (now t) x kin f h ⌝ }
@@ -298,23 +325,15 @@ fn over_lines(s: &[u8], t: &mut [u8], x: Site, kin: Kin, f: Rows, h: Held) -> Ru
         }
         row = past(t, f, row, o);
         let g = placed(h, depth, flag);
-        let v = attempt(s, t, x, kin, f, live, g, code, o as u16, row);
-        if v == 65 {
-            let r = one_line(s, t, x, kin, f, live, placed(h, depth, flag), o as u16);
-            let number = r.refusal;
-            if number != 0 {
-                return Ruled { number, place: o };
-            }
-            let q = r.held;
-            live = r.live;
-            depth = q.depth;
-            flag = q.flag;
-        } else if v == 64 {
-            live = false;
-        } else {
-            live = true;
-            depth = v;
+        let r = line(s, t, x, kin, f, live, g, code, o as u16, row);
+        let number = r.refusal;
+        if number != 0 {
+            return Ruled { number, place: o };
         }
+        let q = r.held;
+        live = r.live;
+        depth = q.depth;
+        flag = q.flag;
         let n = size_at(code, o);
         if n == 0 {
             return ended(live, end);

@@ -15,8 +15,8 @@ fit-locals-requires c κs = search needs
 peek-requires : tie.Need-peek-requires
 peek-requires c κs = search needs
 
-assignable-requires : tie.Need-assignable-requires
-assignable-requires c κs = search needs
+same-or-assignable-requires : tie.Need-same-or-assignable-requires
+same-or-assignable-requires c κs = search needs
 
 returns-3 : tie.Need-returns-3
 returns-3 c = search states depth 12
@@ -35,7 +35,7 @@ fit-caught-spec =
     returns-2
     fit-locals-requires
     peek-requires
-    assignable-requires
+    same-or-assignable-requires
     returns-3
     first-requires
     returns-4)

@@ -7,8 +7,8 @@ use Rattle.rules.proofs.slots.fit_operand.Tie as tie
 peek-requires : tie.Need-peek-requires
 peek-requires c κs = search needs
 
-assignable-requires : tie.Need-assignable-requires
-assignable-requires c κs = search needs
+same-or-assignable-requires : tie.Need-same-or-assignable-requires
+same-or-assignable-requires c κs = search needs
 
 returns : tie.Need-returns
 returns c = search (leaves, arith) depth 12
@@ -17,4 +17,4 @@ returns-2 : tie.Need-returns-2
 returns-2 c = search (leaves, arith) depth 12
 
 pub fit-operand-spec : {M : Type 1} → statement M
-fit-operand-spec = tie.close (tie.spec peek-requires assignable-requires returns returns-2)
+fit-operand-spec = tie.close (tie.spec peek-requires same-or-assignable-requires returns returns-2)

@@ -30,8 +30,8 @@ word-requires-2 c κs = search (needs, arith)
 veiled-requires : tie.Need-veiled-requires Inv-loop μ-loop
 veiled-requires c κs = search (needs, arith)
 
-assignable-requires : tie.Need-assignable-requires Inv-loop μ-loop
-assignable-requires c κs = search (needs, arith)
+same-or-assignable-requires : tie.Need-same-or-assignable-requires Inv-loop μ-loop
+same-or-assignable-requires c κs = search (needs, arith)
 
 returns : tie.Need-returns Inv-loop μ-loop
 returns c = search turns
@@ -64,7 +64,7 @@ fit-range-spec =
     word-requires
     word-requires-2
     veiled-requires
-    assignable-requires
+    same-or-assignable-requires
     returns
     add-p
     add-q

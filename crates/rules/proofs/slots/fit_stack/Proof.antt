@@ -37,8 +37,8 @@ add-word-2 c = search (needs, arith)
 word-requires-2 : tie.Need-word-requires-2 Inv-loop μ-loop
 word-requires-2 c κs = search (needs, arith)
 
-assignable-requires : tie.Need-assignable-requires Inv-loop μ-loop
-assignable-requires c κs = search (needs, arith)
+same-or-assignable-requires : tie.Need-same-or-assignable-requires Inv-loop μ-loop
+same-or-assignable-requires c κs = search (needs, arith)
 
 returns : tie.Need-returns Inv-loop μ-loop
 returns c = search turns
@@ -68,7 +68,7 @@ fit-stack-spec =
     sub-word-2
     add-word-2
     word-requires-2
-    assignable-requires
+    same-or-assignable-requires
     returns
     sub-left
     loop-less

@@ -1,11 +1,7 @@
 use Rattle.texts.specs.Reading.{part}
-use Rattle.verifier.specs.Lineup.{LineDone, walking-at, code-short}
-use Rattle.verifier.specs.Quick.{down, walking-kept, line-kept}
-use Rattle.verifier.specs.Walks.{Midway, mid-start, mid-past, mid-stop, mid-end, mid-next, mid-out, place, turnOf, line-as, line-parts}
-use mathlib.Core.Path.{_≡_, refl, sym, ap, _∙_}
-use Rattle.rules.specs.declared.slots.Held.{Held}
-use mathlib.Core.Bool.{true, false}
-use mathlib.Core.Logic.{⊎-elim}
+use Rattle.verifier.specs.Lineup.{walking-at, code-short}
+use Rattle.verifier.specs.Walks.{Midway, mid-start, mid-past, mid-stop, mid-end, mid-next, mid-out, place, line-as, held-parts}
+use mathlib.Core.Path.{_≡_, refl, sym, _∙_}
 use Prim.Native.Nat.{_≤_}
 use lib.ListN.{length}
 use borrow.Author.Needs.{needs}
@@ -16,6 +12,9 @@ use Rattle.verifier.proofs.walk.over_lines.Reads as reads
 use Rattle.verifier.proofs.walk.over_lines.Lts as lts
 use Rattle.rules.proofs.opcodes.size_at.Reads as size-at-reads
 use Rattle.verifier.proofs.walk.ended.Reads as ended-reads
+use Rattle.verifier.proofs.walk.past.Reads as past-reads
+use Rattle.verifier.proofs.walk.placed.Reads as placed-reads
+use Rattle.verifier.proofs.walk.line.Reads as line-reads
 
 abbrev Inv-loop : tie.InvT-loop
 Inv-loop s t₀ x kin f h from to code end o₀ live₀ depth₀ flag₀ left₀ row₀ t o live depth flag left row =
@@ -23,18 +22,6 @@ Inv-loop s t₀ x kin f h from to code end o₀ live₀ depth₀ flag₀ left₀
 
 abbrev μ-loop : tie.MeasureT-loop
 μ-loop s t₀ x kin f h from to code end o₀ live₀ depth₀ flag₀ left₀ row₀ t o live depth flag left row = left
-
--- what a line left, by whichever way
-went : (c : tie.Joined2 Inv-loop μ-loop)
-    → (length (c .if2 .t) ≡ length (c .before .before .before .before .before .before .before .before .before .before .loop .t)) × LineDone (c .before .before .before .before .before .before .before .before .before .before .before .before .before .before .args .s .now) (c .before .before .before .before .before .before .before .before .before .before .loop .t) (c .if2 .t) (c .before .before .before .before .before .before .before .before .before .before .before .before .before .before .args .x) (c .before .before .before .before .before .before .before .before .before .before .before .before .before .before .args .f) (c .before .before .before .before .before .before .before .before .before .before .loop .live) (place (c .before .before .before .before .before .before .before .before .before .before .before .before .before .before .args .h) (c .before .before .before .before .before .before .before .before .before .before .loop .depth) (c .before .before .before .before .before .before .before .before .before .before .loop .flag)) (c .before .before .before .before .before .before .before .before .before .before .loop .o) (turnOf 0 (c .if2 .live) (place (c .before .before .before .before .before .before .before .before .before .before .before .before .before .before .args .h) (c .if2 .depth) (c .if2 .flag)))
-unfolding part
-went c =
-    ⊎-elim
-    (λ w. (ap length (w .8) ∙ w .3 .kept .1 .0 ∙ c .before .before .before .attempt .kept .1 .0, line-parts _ _ _ _ _ _ (place (c .before .before .before .before .before .before .before .before .before .before .before .before .before .before .args .h) (c .before .before .before .before .before .before .before .before .before .before .loop .depth) (c .before .before .before .before .before .before .before .before .before .before .loop .flag)) (w .2 .result) (w .2 .ensures) _ (w .3 .result) (line-kept _ _ _ _ _ _ (c .before .before .before .attempt .ensures .kept (w .0 .taken)) _ _ _ _ (w .3 .ensures)) _ _ _ _ (w .8) (w .6 .left) (w .9) (w .10) (w .11)))
-    (⊎-elim
-    (λ w. (ap length (w .2) ∙ c .before .before .before .attempt .kept .1 .0, line-parts _ _ _ _ _ _ (place (c .before .before .before .before .before .before .before .before .before .before .before .before .before .before .args .h) (c .before .before .before .before .before .before .before .before .before .before .loop .depth) (c .before .before .before .before .before .before .before .before .before .before .loop .flag)) (c .before .before .before .before .before .placed .result) (c .before .before .before .before .before .placed .ensures) _ (turnOf 0 false (c .before .before .before .before .before .placed .result)) (c .before .before .before .attempt .ensures .off (w .1 .taken)) _ _ _ _ (w .2) refl (w .3) (w .4 ∙ sym (ap (λ (z : Held). z .depth) (c .before .before .before .before .before .placed .ensures))) (w .5 ∙ sym (ap (λ (z : Held). z .flag) (c .before .before .before .before .before .placed .ensures)))))
-    (λ w. (ap length (w .2) ∙ c .before .before .before .attempt .kept .1 .0, line-parts _ _ _ _ _ _ (place (c .before .before .before .before .before .before .before .before .before .before .before .before .before .before .args .h) (c .before .before .before .before .before .before .before .before .before .before .loop .depth) (c .before .before .before .before .before .before .before .before .before .before .loop .flag)) (c .before .before .before .before .before .placed .result) (c .before .before .before .before .before .placed .ensures) _ (turnOf 0 true (down (c .before .before .before .before .before .placed .result) (c .before .before .before .attempt .result))) (c .before .before .before .attempt .ensures .on (w .0 .left) (w .1 .left)) _ _ _ _ (w .2) refl (w .3) (w .4) (w .5 ∙ sym (ap (λ (z : Held). z .flag) (c .before .before .before .before .before .placed .ensures))))))
-    (c .if2 .came)
 
 sub-code : tie.Need-sub-code Inv-loop μ-loop
 sub-code c = omega (arith, c .before .before .pre .bounded .from, c .before .before .pre .bounded .to)
@@ -65,28 +52,19 @@ past-requires c κs = (walking-at _ _ _ _ _ _ (c .before .before .before .before
 placed-requires : tie.Need-placed-requires Inv-loop μ-loop
 placed-requires c κs = search (needs, arith)
 
-cast-attempt : tie.Need-cast-attempt Inv-loop μ-loop
-cast-attempt c = omega (arith, code-short (c .before .before .before .before .before .before .before .before .before .before .args .s .now) (c .before .before .before .before .before .before .before .before .before .before .args .x) (c .before .before .before .before .before .before .before .before .before .before .pre .bounded))
+cast-line : tie.Need-cast-line Inv-loop μ-loop
+cast-line c = omega (arith, code-short (c .before .before .before .before .before .before .before .before .before .before .args .s .now) (c .before .before .before .before .before .before .before .before .before .before .args .x) (c .before .before .before .before .before .before .before .before .before .before .pre .bounded))
 
-attempt-requires : tie.Need-attempt-requires Inv-loop μ-loop
+line-requires : tie.Need-line-requires Inv-loop μ-loop
 unfolding part
-attempt-requires c κs = ((walking-at _ _ _ _ _ _ (c .before .before .before .before .before .before .before .before .before .before .pre) (c .before .before .before .before .before .before .loop .t) (c .before .before .before .before .before .before .loop .depth) (c .before .before .before .before .before .before .loop .flag) _ (c .before .placed .ensures) (c .before .before .before .before .before .before .loop .inv .2) (c .before .before .before .before .before .before .loop .inv .3 .front) (c .before .before .before .before .before .before .loop .inv .0)), refl)
-
-placed-requires-2 : tie.Need-placed-requires-2 Inv-loop μ-loop
-placed-requires-2 c κs = search (needs, arith)
-
-cast-one-line : tie.Need-cast-one-line Inv-loop μ-loop
-cast-one-line c = omega (arith, code-short (c .before .before .before .before .before .before .before .before .before .before .before .before .before .before .before .before .args .s .now) (c .before .before .before .before .before .before .before .before .before .before .before .before .before .before .before .before .args .x) (c .before .before .before .before .before .before .before .before .before .before .before .before .before .before .before .before .pre .bounded))
-
-one-line-requires : tie.Need-one-line-requires Inv-loop μ-loop
-one-line-requires c κs = walking-kept _ _ _ _ _ _ (c .before .before .before .before .before .attempt .ensures .kept (c .before .before .if2 .taken)) _ (walking-at _ _ _ _ _ _ (c .before .before .before .before .before .before .before .before .before .before .before .before .before .before .before .before .pre) (c .before .before .before .before .before .before .before .before .before .before .before .before .loop .t) (c .before .before .before .before .before .before .before .before .before .before .before .before .loop .depth) (c .before .before .before .before .before .before .before .before .before .before .before .before .loop .flag) _ (c .placed2 .ensures) (c .before .before .before .before .before .before .before .before .before .before .before .before .loop .inv .2) (c .before .before .before .before .before .before .before .before .before .before .before .before .loop .inv .3 .front) (c .before .before .before .before .before .before .before .before .before .before .before .before .loop .inv .0))
+line-requires c κs = ((walking-at _ _ _ _ _ _ (c .before .before .before .before .before .before .before .before .before .before .pre) (c .before .before .before .before .before .before .loop .t) (c .before .before .before .before .before .before .loop .depth) (c .before .before .before .before .before .before .loop .flag) _ (c .before .placed .ensures) (c .before .before .before .before .before .before .loop .inv .2) (c .before .before .before .before .before .before .loop .inv .3 .front) (c .before .before .before .before .before .before .loop .inv .0)), refl)
 
 same-length-2 : tie.Need-same-length-2 Inv-loop μ-loop
-same-length-2 c = c .before .before .before .one-line .kept .1 .0 ∙ c .before .before .before .before .before .before .before .before .before .attempt .kept .1 .0 ∙ c .before .before .before .before .before .before .before .before .before .before .before .before .before .before .before .before .loop .inv .0
+same-length-2 c = c .before .before .before .line .kept .1 .0 ∙ c .before .before .before .before .before .before .before .before .before .before .loop .inv .0
 
 returns-2 : tie.Need-returns-2 Inv-loop μ-loop
 unfolding part
-returns-2 c = mid-stop (c .before .before .before .before .before .before .before .before .before .before .before .before .before .before .before .before .before .before .before .before .args .s .now) (c .before .before .before .before .before .before .before .before .before .before .before .before .before .before .before .before .before .before .before .before .args .t .now) (c .before .before .before .before .before .before .before .before .before .before .before .before .before .before .before .before .loop .t) (c .before .before .before .before .before .before .before .before .before .before .before .before .before .before .before .before .before .before .before .before .args .x) (c .before .before .before .before .before .before .before .before .before .before .before .before .before .before .before .before .before .before .before .before .args .f) (c .before .before .before .before .before .before .before .before .before .before .before .before .before .before .before .before .before .before .before .before .args .h) (c .before .before .before .before .before .before .before .before .before .before .before .before .before .before .before .before .loop .left) (c .before .before .before .before .before .before .before .before .before .before .before .before .before .before .before .before .loop .o) (c .before .before .before .before .before .before .before .before .before .before .before .before .before .before .before .before .loop .live) (place (c .before .before .before .before .before .before .before .before .before .before .before .before .before .before .before .before .before .before .before .before .args .h) (c .before .before .before .before .before .before .before .before .before .before .before .before .before .before .before .before .loop .depth) (c .before .before .before .before .before .before .before .before .before .before .before .before .before .before .before .before .loop .flag)) (c .before .before .before .before .before .before .before .before .before .before .before .before .before .before .before .before .loop .inv .3) _ refl (c .before .before .before .before .before .before .before .before .before .before .before .before .before .before .before .before .before .before .before .before .args .kin) (walking-at _ _ _ _ _ _ (c .before .before .before .before .before .before .before .before .before .before .before .before .before .before .before .before .before .before .before .before .pre) (c .before .before .before .before .before .before .before .before .before .before .before .before .before .before .before .before .loop .t) (c .before .before .before .before .before .before .before .before .before .before .before .before .before .before .before .before .loop .depth) (c .before .before .before .before .before .before .before .before .before .before .before .before .before .before .before .before .loop .flag) (place (c .before .before .before .before .before .before .before .before .before .before .before .before .before .before .before .before .before .before .before .before .args .h) (c .before .before .before .before .before .before .before .before .before .before .before .before .before .before .before .before .loop .depth) (c .before .before .before .before .before .before .before .before .before .before .before .before .before .before .before .before .loop .flag)) (refl) (c .before .before .before .before .before .before .before .before .before .before .before .before .before .before .before .before .loop .inv .2) (c .before .before .before .before .before .before .before .before .before .before .before .before .before .before .before .before .loop .inv .3 .front) (c .before .before .before .before .before .before .before .before .before .before .before .before .before .before .before .before .loop .inv .0)) (c .before .before .before .before .before .before .before .before .before .before .before .before .before .before .before .loop-test .taken) (c .before .before .before .before .before .before .before .before .before .before .before .before .before .before .if1 .left) (c .before .before .before .one-line .last .1 .0) (c .before .before .before .one-line .result) (line-as _ _ _ _ _ _ (place (c .before .before .before .before .before .before .before .before .before .before .before .before .before .before .before .before .before .before .before .before .args .h) (c .before .before .before .before .before .before .before .before .before .before .before .before .before .before .before .before .loop .depth) (c .before .before .before .before .before .before .before .before .before .before .before .before .before .before .before .before .loop .flag)) _ (c .before .before .before .before .placed2 .ensures) _ _ (line-kept _ _ _ _ _ _ (c .before .before .before .before .before .before .before .before .before .attempt .ensures .kept (c .before .before .before .before .before .before .if2 .taken)) _ _ _ _ (c .before .before .before .one-line .ensures))) _ (c .if3 .taken) refl
+returns-2 c = mid-stop (c .before .before .before .before .before .before .before .before .before .before .before .before .before .before .args .s .now) (c .before .before .before .before .before .before .before .before .before .before .before .before .before .before .args .t .now) (c .before .before .before .before .before .before .before .before .before .before .loop .t) (c .before .before .before .before .before .before .before .before .before .before .before .before .before .before .args .x) (c .before .before .before .before .before .before .before .before .before .before .before .before .before .before .args .f) (c .before .before .before .before .before .before .before .before .before .before .before .before .before .before .args .h) (c .before .before .before .before .before .before .before .before .before .before .loop .left) (c .before .before .before .before .before .before .before .before .before .before .loop .o) (c .before .before .before .before .before .before .before .before .before .before .loop .live) (place (c .before .before .before .before .before .before .before .before .before .before .before .before .before .before .args .h) (c .before .before .before .before .before .before .before .before .before .before .loop .depth) (c .before .before .before .before .before .before .before .before .before .before .loop .flag)) (c .before .before .before .before .before .before .before .before .before .before .loop .inv .3) _ refl (c .before .before .before .before .before .before .before .before .before .before .before .before .before .before .args .kin) (walking-at _ _ _ _ _ _ (c .before .before .before .before .before .before .before .before .before .before .before .before .before .before .pre) (c .before .before .before .before .before .before .before .before .before .before .loop .t) (c .before .before .before .before .before .before .before .before .before .before .loop .depth) (c .before .before .before .before .before .before .before .before .before .before .loop .flag) (place (c .before .before .before .before .before .before .before .before .before .before .before .before .before .before .args .h) (c .before .before .before .before .before .before .before .before .before .before .loop .depth) (c .before .before .before .before .before .before .before .before .before .before .loop .flag)) (refl) (c .before .before .before .before .before .before .before .before .before .before .loop .inv .2) (c .before .before .before .before .before .before .before .before .before .before .loop .inv .3 .front) (c .before .before .before .before .before .before .before .before .before .before .loop .inv .0)) (c .before .before .before .before .before .before .before .before .before .loop-test .taken) (c .before .before .before .before .before .before .before .before .if1 .left) (c .before .before .before .line .last .1 .0) (c .before .before .before .line .result) (line-as _ _ _ _ _ _ (place (c .before .before .before .before .before .before .before .before .before .before .before .before .before .before .args .h) (c .before .before .before .before .before .before .before .before .before .before .loop .depth) (c .before .before .before .before .before .before .before .before .before .before .loop .flag)) _ (c .before .before .before .before .before .placed .ensures) _ _ (c .before .before .before .line .ensures)) _ (c .if2 .taken) refl
 
 size-at-requires : tie.Need-size-at-requires Inv-loop μ-loop
 size-at-requires c κs = search (needs, arith)
@@ -95,14 +73,14 @@ ended-requires-2 : tie.Need-ended-requires-2 Inv-loop μ-loop
 ended-requires-2 c κs = search (needs, arith)
 
 same-length-3 : tie.Need-same-length-3 Inv-loop μ-loop
-same-length-3 c = went (c .before .before .before) .0 ∙ c .before .before .before .before .before .before .before .before .before .before .before .before .before .loop .inv .0
+same-length-3 c = c .before .before .before .before .before .before .before .line .kept .1 .0 ∙ c .before .before .before .before .before .before .before .before .before .before .before .before .before .before .loop .inv .0
 
 returns-3 : tie.Need-returns-3 Inv-loop μ-loop
 unfolding part
-returns-3 c = mid-end (c .before .before .before .before .before .before .before .before .before .before .before .before .before .before .before .before .before .args .s .now) (c .before .before .before .before .before .before .before .before .before .before .before .before .before .before .before .before .before .args .t .now) (c .before .before .before .before .before .before .before .before .before .before .before .before .before .loop .t) (c .before .before .before .before .before .before .before .before .before .before .before .before .before .before .before .before .before .args .x) (c .before .before .before .before .before .before .before .before .before .before .before .before .before .before .before .before .before .args .f) (c .before .before .before .before .before .before .before .before .before .before .before .before .before .before .before .before .before .args .h) (c .before .before .before .before .before .before .before .before .before .before .before .before .before .loop .left) (c .before .before .before .before .before .before .before .before .before .before .before .before .before .loop .o) (c .before .before .before .before .before .before .before .before .before .before .before .before .before .loop .live) (place (c .before .before .before .before .before .before .before .before .before .before .before .before .before .before .before .before .before .args .h) (c .before .before .before .before .before .before .before .before .before .before .before .before .before .loop .depth) (c .before .before .before .before .before .before .before .before .before .before .before .before .before .loop .flag)) (c .before .before .before .before .before .before .before .before .before .before .before .before .before .loop .inv .3) _ refl (c .before .before .before .before .before .before .before .before .before .before .before .before .before .before .before .before .before .args .kin) (walking-at _ _ _ _ _ _ (c .before .before .before .before .before .before .before .before .before .before .before .before .before .before .before .before .before .pre) (c .before .before .before .before .before .before .before .before .before .before .before .before .before .loop .t) (c .before .before .before .before .before .before .before .before .before .before .before .before .before .loop .depth) (c .before .before .before .before .before .before .before .before .before .before .before .before .before .loop .flag) (place (c .before .before .before .before .before .before .before .before .before .before .before .before .before .before .before .before .before .args .h) (c .before .before .before .before .before .before .before .before .before .before .before .before .before .loop .depth) (c .before .before .before .before .before .before .before .before .before .before .before .before .before .loop .flag)) (refl) (c .before .before .before .before .before .before .before .before .before .before .before .before .before .loop .inv .2) (c .before .before .before .before .before .before .before .before .before .before .before .before .before .loop .inv .3 .front) (c .before .before .before .before .before .before .before .before .before .before .before .before .before .loop .inv .0)) (c .before .before .before .before .before .before .before .before .before .before .before .before .loop-test .taken) (c .before .before .before .before .before .before .before .before .before .before .before .if1 .left) (c .before .before .before .if2 .t) (turnOf 0 (c .before .before .before .if2 .live) (place (c .before .before .before .before .before .before .before .before .before .before .before .before .before .before .before .before .before .args .h) (c .before .before .before .if2 .depth) (c .before .before .before .if2 .flag))) (went (c .before .before .before) .1) refl _ (c .before .before .size-at .ensures .0) _ (c .before .if5 .taken) (c .ended2 .ensures)
+returns-3 c = mid-end (c .before .before .before .before .before .before .before .before .before .before .before .before .before .before .before .before .before .before .args .s .now) (c .before .before .before .before .before .before .before .before .before .before .before .before .before .before .before .before .before .before .args .t .now) (c .before .before .before .before .before .before .before .before .before .before .before .before .before .before .loop .t) (c .before .before .before .before .before .before .before .before .before .before .before .before .before .before .before .before .before .before .args .x) (c .before .before .before .before .before .before .before .before .before .before .before .before .before .before .before .before .before .before .args .f) (c .before .before .before .before .before .before .before .before .before .before .before .before .before .before .before .before .before .before .args .h) (c .before .before .before .before .before .before .before .before .before .before .before .before .before .before .loop .left) (c .before .before .before .before .before .before .before .before .before .before .before .before .before .before .loop .o) (c .before .before .before .before .before .before .before .before .before .before .before .before .before .before .loop .live) (place (c .before .before .before .before .before .before .before .before .before .before .before .before .before .before .before .before .before .before .args .h) (c .before .before .before .before .before .before .before .before .before .before .before .before .before .before .loop .depth) (c .before .before .before .before .before .before .before .before .before .before .before .before .before .before .loop .flag)) (c .before .before .before .before .before .before .before .before .before .before .before .before .before .before .loop .inv .3) _ refl (c .before .before .before .before .before .before .before .before .before .before .before .before .before .before .before .before .before .before .args .kin) (walking-at _ _ _ _ _ _ (c .before .before .before .before .before .before .before .before .before .before .before .before .before .before .before .before .before .before .pre) (c .before .before .before .before .before .before .before .before .before .before .before .before .before .before .loop .t) (c .before .before .before .before .before .before .before .before .before .before .before .before .before .before .loop .depth) (c .before .before .before .before .before .before .before .before .before .before .before .before .before .before .loop .flag) (place (c .before .before .before .before .before .before .before .before .before .before .before .before .before .before .before .before .before .before .args .h) (c .before .before .before .before .before .before .before .before .before .before .before .before .before .before .loop .depth) (c .before .before .before .before .before .before .before .before .before .before .before .before .before .before .loop .flag)) (refl) (c .before .before .before .before .before .before .before .before .before .before .before .before .before .before .loop .inv .2) (c .before .before .before .before .before .before .before .before .before .before .before .before .before .before .loop .inv .3 .front) (c .before .before .before .before .before .before .before .before .before .before .before .before .before .before .loop .inv .0)) (c .before .before .before .before .before .before .before .before .before .before .before .before .before .loop-test .taken) (c .before .before .before .before .before .before .before .before .before .before .before .before .if1 .left) (c .before .before .before .before .before .before .before .line .last .1 .0) (c .before .before .before .before .before .before .before .line .result) (line-as _ _ _ _ _ _ (place (c .before .before .before .before .before .before .before .before .before .before .before .before .before .before .before .before .before .before .args .h) (c .before .before .before .before .before .before .before .before .before .before .before .before .before .before .loop .depth) (c .before .before .before .before .before .before .before .before .before .before .before .before .before .before .loop .flag)) _ (c .before .before .before .before .before .before .before .before .before .placed .ensures) _ _ (c .before .before .before .before .before .before .before .line .ensures)) (c .before .before .before .before .if2 .left) _ (c .before .before .size-at .ensures .0) _ (c .before .if3 .taken) (c .ended2 .ensures)
 
 add-o : tie.Need-add-o Inv-loop μ-loop
-add-o c = omega (arith, c .before .size-at .ensures .1)
+add-o c = omega (arith, c .before .size-at .ensures .1, code-short (c .before .before .before .before .before .before .before .before .before .before .before .before .before .before .before .before .before .args .s .now) (c .before .before .before .before .before .before .before .before .before .before .before .before .before .before .before .before .before .args .x) (c .before .before .before .before .before .before .before .before .before .before .before .before .before .before .before .before .before .pre .bounded))
 
 sub-left : tie.Need-sub-left Inv-loop μ-loop
 sub-left c = omega arith
@@ -112,7 +90,7 @@ loop-less c = omega arith
 
 loop-again : tie.Need-loop-again Inv-loop μ-loop
 unfolding part
-loop-again c = (went (c .before .before) .0 ∙ c .before .before .before .before .before .before .before .before .before .before .before .before .loop .inv .0, omega arith, went (c .before .before) .1 .going .depth, mid-next (c .before .before .before .before .before .before .before .before .before .before .before .before .before .before .before .before .args .s .now) (c .before .before .before .before .before .before .before .before .before .before .before .before .before .before .before .before .args .t .now) (c .before .before .before .before .before .before .before .before .before .before .before .before .loop .t) (c .before .before .before .before .before .before .before .before .before .before .before .before .before .before .before .before .args .x) (c .before .before .before .before .before .before .before .before .before .before .before .before .before .before .before .before .args .f) (c .before .before .before .before .before .before .before .before .before .before .before .before .before .before .before .before .args .h) (c .before .before .before .before .before .before .before .before .before .before .before .before .loop .left) (c .before .before .before .before .before .before .before .before .before .before .before .before .loop .o) (c .before .before .before .before .before .before .before .before .before .before .before .before .loop .live) (place (c .before .before .before .before .before .before .before .before .before .before .before .before .before .before .before .before .args .h) (c .before .before .before .before .before .before .before .before .before .before .before .before .loop .depth) (c .before .before .before .before .before .before .before .before .before .before .before .before .loop .flag)) (c .before .before .before .before .before .before .before .before .before .before .before .before .loop .inv .3) _ refl (c .before .before .before .before .before .before .before .before .before .before .before .before .before .before .before .before .args .kin) (walking-at _ _ _ _ _ _ (c .before .before .before .before .before .before .before .before .before .before .before .before .before .before .before .before .pre) (c .before .before .before .before .before .before .before .before .before .before .before .before .loop .t) (c .before .before .before .before .before .before .before .before .before .before .before .before .loop .depth) (c .before .before .before .before .before .before .before .before .before .before .before .before .loop .flag) (place (c .before .before .before .before .before .before .before .before .before .before .before .before .before .before .before .before .args .h) (c .before .before .before .before .before .before .before .before .before .before .before .before .loop .depth) (c .before .before .before .before .before .before .before .before .before .before .before .before .loop .flag)) (refl) (c .before .before .before .before .before .before .before .before .before .before .before .before .loop .inv .2) (c .before .before .before .before .before .before .before .before .before .before .before .before .loop .inv .3 .front) (c .before .before .before .before .before .before .before .before .before .before .before .before .loop .inv .0)) (c .before .before .before .before .before .before .before .before .before .before .before .loop-test .taken) (c .before .before .before .before .before .before .before .before .before .before .if1 .left) (c .before .before .if2 .t) (turnOf 0 (c .before .before .if2 .live) (place (c .before .before .before .before .before .before .before .before .before .before .before .before .before .before .before .before .args .h) (c .before .before .if2 .depth) (c .before .before .if2 .flag))) (went (c .before .before) .1) refl _ (c .before .size-at .ensures .0) _ refl (c .if5 .left))
+loop-again c = (c .before .before .before .before .before .before .line .kept .1 .0 ∙ c .before .before .before .before .before .before .before .before .before .before .before .before .before .loop .inv .0, omega arith, c .before .before .before .before .before .before .line .ensures .going .depth, mid-next (c .before .before .before .before .before .before .before .before .before .before .before .before .before .before .before .before .before .args .s .now) (c .before .before .before .before .before .before .before .before .before .before .before .before .before .before .before .before .before .args .t .now) (c .before .before .before .before .before .before .before .before .before .before .before .before .before .loop .t) (c .before .before .before .before .before .before .before .before .before .before .before .before .before .before .before .before .before .args .x) (c .before .before .before .before .before .before .before .before .before .before .before .before .before .before .before .before .before .args .f) (c .before .before .before .before .before .before .before .before .before .before .before .before .before .before .before .before .before .args .h) (c .before .before .before .before .before .before .before .before .before .before .before .before .before .loop .left) (c .before .before .before .before .before .before .before .before .before .before .before .before .before .loop .o) (c .before .before .before .before .before .before .before .before .before .before .before .before .before .loop .live) (place (c .before .before .before .before .before .before .before .before .before .before .before .before .before .before .before .before .before .args .h) (c .before .before .before .before .before .before .before .before .before .before .before .before .before .loop .depth) (c .before .before .before .before .before .before .before .before .before .before .before .before .before .loop .flag)) (c .before .before .before .before .before .before .before .before .before .before .before .before .before .loop .inv .3) _ refl (c .before .before .before .before .before .before .before .before .before .before .before .before .before .before .before .before .before .args .kin) (walking-at _ _ _ _ _ _ (c .before .before .before .before .before .before .before .before .before .before .before .before .before .before .before .before .before .pre) (c .before .before .before .before .before .before .before .before .before .before .before .before .before .loop .t) (c .before .before .before .before .before .before .before .before .before .before .before .before .before .loop .depth) (c .before .before .before .before .before .before .before .before .before .before .before .before .before .loop .flag) (place (c .before .before .before .before .before .before .before .before .before .before .before .before .before .before .before .before .before .args .h) (c .before .before .before .before .before .before .before .before .before .before .before .before .before .loop .depth) (c .before .before .before .before .before .before .before .before .before .before .before .before .before .loop .flag)) (refl) (c .before .before .before .before .before .before .before .before .before .before .before .before .before .loop .inv .2) (c .before .before .before .before .before .before .before .before .before .before .before .before .before .loop .inv .3 .front) (c .before .before .before .before .before .before .before .before .before .before .before .before .before .loop .inv .0)) (c .before .before .before .before .before .before .before .before .before .before .before .before .loop-test .taken) (c .before .before .before .before .before .before .before .before .before .before .before .if1 .left) (c .before .before .before .before .before .before .line .last .1 .0) (c .before .before .before .before .before .before .line .result) (line-as _ _ _ _ _ _ (place (c .before .before .before .before .before .before .before .before .before .before .before .before .before .before .before .before .before .args .h) (c .before .before .before .before .before .before .before .before .before .before .before .before .before .loop .depth) (c .before .before .before .before .before .before .before .before .before .before .before .before .before .loop .flag)) _ (c .before .before .before .before .before .before .before .before .placed .ensures) _ _ (c .before .before .before .before .before .before .line .ensures)) (c .before .before .before .if2 .left) _ (c .before .size-at .ensures .0) _ (held-parts (place (c .before .before .before .before .before .before .before .before .before .before .before .before .before .before .before .before .before .args .h) (c .before .before .before .before .before .before .before .before .before .before .before .before .before .loop .depth) (c .before .before .before .before .before .before .before .before .before .before .before .before .before .loop .flag)) (c .before .before .before .before .before .before .line .result .held) ((line-as _ _ _ _ _ _ (place (c .before .before .before .before .before .before .before .before .before .before .before .before .before .before .before .before .before .args .h) (c .before .before .before .before .before .before .before .before .before .before .before .before .before .loop .depth) (c .before .before .before .before .before .before .before .before .before .before .before .before .before .loop .flag)) _ (c .before .before .before .before .before .before .before .before .placed .ensures) _ _ (c .before .before .before .before .before .before .line .ensures)) .going)) (c .if3 .left))
 
 ended-requires-3 : tie.Need-ended-requires-3 Inv-loop μ-loop
 ended-requires-3 c κs = search (needs, arith)
@@ -139,11 +117,8 @@ over-lines-spec =
     returns
     past-requires
     placed-requires
-    cast-attempt
-    attempt-requires
-    placed-requires-2
-    cast-one-line
-    one-line-requires
+    cast-line
+    line-requires
     same-length-2
     returns-2
     size-at-requires
