@@ -1,3 +1,4 @@
+pub mod Fields
 pub mod Quick
 pub mod Stretch
 pub mod Forwarding

@@ -1,9 +1,10 @@
 // Instructions of one window by their opcodes. What calls, returns, throws or makes an object is left to a step.
 ghost use mathlib.Core.Path.{_≡_};
-ghost use Prim.Native.Nat.{_+_, _*_, _<_, _^_};
+ghost use Prim.Native.Nat.{_+_, _*_, _%_, _<_, _^_};
 ghost use lib.ListN.{length, getD};
 ghost use Rattle.stretching.specs.Quick.{Quick, Ready, bytesAt, kinOf, placeAt};
 ghost use Rattle.rules.specs.ResolvedWords.{wordOf};
+use crate::fields;
 use plain::forms;
 use plain::groups;
 use plain::memory;
@@ -82,6 +83,13 @@ fn bytes(code: &[u8], at: u32) -> Bytes
     }
 }
 
+// Where the branch leads.
+fn leads_to(code: &[u8], at: u32) -> u16
+    ensures { λ r. ⌜ r ≡ (at + (getD (now (code .entry)) (at + 1) 0 * 256 + getD (now (code .entry)) (at + 2) 0)) % 2 ^ 16 ⌝ }
+{
+    decode::target(bytes(code, at))
+}
+
 // The word of what the operand bytes name.
 fn named(t: &[u8], code: &[u8], y: Ground, at: u32) -> u32
     ensures { λ r. ⌜ r ≡ wordOf (now (t .entry)) (y .class) (getD (now (code .entry)) (at + 1) 0 * 256 + getD (now (code .entry)) (at + 2) 0) ⌝ }
@@ -110,7 +118,7 @@ fn get_field(
         return elsewhere(used);
     }
     let c = place(y, at, operands, used, 3);
-    memory::getfield(t, kin(y), cells, w, g, c, decode::field(r))
+    fields::getfield(t, kin(y), cells, w, g, c, decode::field(r))
 }
 
 fn put_field(
@@ -133,7 +141,7 @@ fn put_field(
         return elsewhere(used);
     }
     let c = place(y, at, operands, used, 3);
-    memory::putfield(t, kin(y), cells, w, g, c, decode::field(r))
+    fields::putfield(t, kin(y), cells, w, g, c, decode::field(r))
 }
 
 // Numbers, arrays and tests of types: by what decoding makes of them.
@@ -289,21 +297,20 @@ fn branches(
     requires { ⌜ Ready (now code) (now cells) (now w) (now g) y at operands × (op ≡ getD (now code) at 0) ⌝ }
     ensures { λ r. ⌜ Quick (now (b .entry)) (now (t .entry)) (now (code .entry)) y at operands used (now (w .entry)) (now (g .entry)) (now (cells .entry)) (now (w .exit)) (now (g .exit)) (now (cells .exit)) r ⌝ }
 {
-    let o = decode::target(bytes(code, at));
     match op {
-        0x99 => forms::if_int(w, g, place(y, at, operands, used, 3), 0, o),
-        0x9a => forms::if_int(w, g, place(y, at, operands, used, 3), 1, o),
-        0x9b => forms::if_int(w, g, place(y, at, operands, used, 3), 2, o),
-        0x9c => forms::if_int(w, g, place(y, at, operands, used, 3), 3, o),
-        0x9d => forms::if_int(w, g, place(y, at, operands, used, 3), 4, o),
-        0x9e => forms::if_int(w, g, place(y, at, operands, used, 3), 5, o),
-        0x9f => forms::if_two(w, g, place(y, at, operands, used, 3), 0, o),
-        0xa0 => forms::if_two(w, g, place(y, at, operands, used, 3), 1, o),
-        0xa1 => forms::if_two(w, g, place(y, at, operands, used, 3), 2, o),
-        0xa2 => forms::if_two(w, g, place(y, at, operands, used, 3), 3, o),
-        0xa3 => forms::if_two(w, g, place(y, at, operands, used, 3), 4, o),
-        0xa4 => forms::if_two(w, g, place(y, at, operands, used, 3), 5, o),
-        0xa7 => forms::jump(w, g, place(y, at, operands, used, 3), o),
+        0x99 => forms::if_int(w, g, place(y, at, operands, used, 3), 0, leads_to(code, at)),
+        0x9a => forms::if_int(w, g, place(y, at, operands, used, 3), 1, leads_to(code, at)),
+        0x9b => forms::if_int(w, g, place(y, at, operands, used, 3), 2, leads_to(code, at)),
+        0x9c => forms::if_int(w, g, place(y, at, operands, used, 3), 3, leads_to(code, at)),
+        0x9d => forms::if_int(w, g, place(y, at, operands, used, 3), 4, leads_to(code, at)),
+        0x9e => forms::if_int(w, g, place(y, at, operands, used, 3), 5, leads_to(code, at)),
+        0x9f => forms::if_two(w, g, place(y, at, operands, used, 3), 0, leads_to(code, at)),
+        0xa0 => forms::if_two(w, g, place(y, at, operands, used, 3), 1, leads_to(code, at)),
+        0xa1 => forms::if_two(w, g, place(y, at, operands, used, 3), 2, leads_to(code, at)),
+        0xa2 => forms::if_two(w, g, place(y, at, operands, used, 3), 3, leads_to(code, at)),
+        0xa3 => forms::if_two(w, g, place(y, at, operands, used, 3), 4, leads_to(code, at)),
+        0xa4 => forms::if_two(w, g, place(y, at, operands, used, 3), 5, leads_to(code, at)),
+        0xa7 => forms::jump(w, g, place(y, at, operands, used, 3), leads_to(code, at)),
         _ => others(b, t, code, cells, w, g, y, at, operands, used, op),
     }
 }
@@ -484,7 +491,8 @@ fn constants(
     }
 }
 
-// The instruction at an offset. Each list hands on what it does not have, so that the compiler makes one jump of all; those with calls come last.
+// The instruction at an offset. Each list does nothing before its match and hands on what it does not have, so that the compiler makes one
+// jump of all; those with calls come last.
 pub fn turn(
     b: &[u8],
     t: &[u8],
