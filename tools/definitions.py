@@ -12,7 +12,7 @@ def depends():
 
 
 DEPENDS = depends()
-CRATES = {name: " ".join(DEPENDS[name]) for name in DEPENDS["plain"] + ["plain"]}
+CRATES = {name: " ".join(DEPENDS[name]) for name in DEPENDS["examples"]}
 
 
 def spec(crate, module):
