@@ -1,10 +1,10 @@
-//! Links `libmachine.a`: in the directory that `FLOSQUEDO_ARCHIVES` names, or where `rt staticlib machine` puts it, which is run if it is not there.
+//! Links `libexports.a`: in the directory that `FLOSQUEDO_ARCHIVES` names, or where `rt staticlib exports` puts it, which is run if it is not there.
 
 use std::env;
 use std::path::{Path, PathBuf};
 use std::process::Command;
 
-const ARCHIVE: &str = "libmachine.a";
+const ARCHIVE: &str = "libexports.a";
 
 fn main() {
     println!("cargo:rerun-if-env-changed=FLOSQUEDO_ARCHIVES");
@@ -15,7 +15,7 @@ fn main() {
         make(&archive);
     }
     println!("cargo:rustc-link-search=native={}", directory.display());
-    println!("cargo:rustc-link-lib=static=machine");
+    println!("cargo:rustc-link-lib=static=exports");
 }
 
 fn root() -> PathBuf {
@@ -38,9 +38,9 @@ fn make(archive: &Path) {
             ARCHIVE
         );
     }
-    println!("cargo:warning=proving and compiling the machine by `rt staticlib machine`; this takes minutes");
+    println!("cargo:warning=proving and compiling the machine by `rt staticlib exports`; this takes minutes");
     let made = Command::new("rt")
-        .args(["staticlib", "machine"])
+        .args(["staticlib", "exports"])
         .current_dir(root())
         .output();
     match made {
@@ -49,9 +49,9 @@ fn make(archive: &Path) {
             archive.display(), error, ARCHIVE
         ),
         Ok(output) if !output.status.success() => panic!(
-            "`rt staticlib machine` failed:\n{}{}",
+            "`rt staticlib exports` failed:\n{}{}",
             String::from_utf8_lossy(&output.stdout), String::from_utf8_lossy(&output.stderr)
         ),
-        Ok(_) => assert!(archive.is_file(), "`rt staticlib machine` did not write {}", archive.display()),
+        Ok(_) => assert!(archive.is_file(), "`rt staticlib exports` did not write {}", archive.display()),
     }
 }

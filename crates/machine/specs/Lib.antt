@@ -3,4 +3,3 @@ pub mod Filling
 pub mod Turns
 pub mod Onward
 pub mod Outcomes
-pub mod Exports

@@ -1,5 +1,4 @@
-// The run: the table of virtual calls, the loop, refusals and ends, and what others call.
+// The run: the table of virtual calls, the loop, refusals and ends.
 pub mod dispatch;
-pub mod outlet;
 pub mod run;
 pub mod turns;

@@ -23,7 +23,7 @@ use Rattle.reader.specs.FileLimits.{BodyFits, method-fit}
 use Rattle.reader.specs.Whole.{Tables}
 use Rattle.rules.specs.Resolve.{resolve}
 use Rattle.rules.specs.ResolvedWords.{wordOf, resolvedOf, Flagged}
-use Rattle.shaping.specs.Resolving.{Blanked, Entered, ResolvedAll, files-same, block-same, parents-same, limited-same}
+use Rattle.shaping.specs.Resolving.{Around, ResolvedAll, files-same, block-same, parents-same, limited-same}
 use Rattle.rules.specs.Sites.{front, Here}
 use Rattle.shaping.specs.SiteLaws.{word-front}
 use Rattle.shaping.specs.Located.{Prepared, Located}
@@ -104,13 +104,9 @@ prepared-by s n t u h e d r = record { tables = tables-kept s n t u h e byte; re
         ap (λ (q : ℕ). getD u q 0) (sym z) ∙ sym (getD-drop 168576 u (p - 168576) 0) ∙ ap (λ (x : List ℕ). getD x (p - 168576) 0) d
         ∙ getD-drop 168576 t (p - 168576) 0 ∙ ap (λ (q : ℕ). getD t q 0) z
 
--- and were cleared before
-pub prepared-after : (s : List ℕ) (n : ℕ) (t u v : List ℕ) → Tables s n t → Blanked n t u → Entered s n u v
-    → (take 103040 v ≡ take 103040 t) × (drop 168576 v ≡ drop 168576 t) × Prepared s n v
-prepared-after s n t u v h x y =
-    let e : take 103040 v ≡ take 103040 t = y .front ∙ x .front in
-    let d : drop 168576 v ≡ drop 168576 t = y .back ∙ x .back in
-    (e, d, prepared-by s n t v h e d (y .all))
+pub prepared-after : (s : List ℕ) (n : ℕ) (t u : List ℕ) → Tables s n t → Around t u → ResolvedAll s n u
+    → (take 103040 u ≡ take 103040 t) × (drop 168576 u ≡ drop 168576 t) × Prepared s n u
+prepared-after s n t u h a r = (a .front, a .back, prepared-by s n t u h (a .front) (a .back) r)
 
 -- ---- in any scratch with the same front, and in the front alone
 module _ (s : List ℕ) (n : ℕ) (t u : List ℕ) (h : Prepared s n t) (e : front u ≡ front t) where

@@ -8,6 +8,7 @@ pub mod LineLaws
 pub mod MarkLaws
 pub mod TraitLaws
 pub mod ScanLaws
+pub mod FillLaws
 pub mod Shaping
 pub mod ShapeLaws
 pub mod ShapeWhole

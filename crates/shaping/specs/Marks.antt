@@ -9,7 +9,7 @@ use Rattle.kit.specs.Claims.{Ruling, pass, fail, verdict}
 use Rattle.reader.specs.Verdicts.{Fault, fault}
 use Rattle.rules.specs.Instruction.{isNew}
 use Rattle.rules.specs.Lines.{Line, line, lines}
-use Rattle.rules.specs.Shape.{formClaims}
+use Rattle.rules.specs.Shape.{formClaims, shapeClaims}
 use Rattle.rules.specs.Sites.{front, programAt, methodAt, Here}
 use Rattle.rules.specs.declared.site.Site.{Site}
 use Rattle.rules.specs.declared.site.Ruled.{Ruled}
@@ -53,3 +53,12 @@ pub record Ready (s t : List ℕ) (x : Site) : Type 0 where
   pub one : x .codes ≡ 1
   pub long : 262144 ≤ length t
   pub marks : Marked (linesAt s t x) (x .end - x .start) t
+
+-- phase C passes the method at a site
+abbrev pub PassesShape : List ℕ → List ℕ → Site → Type 0
+PassesShape s t x = verdict (shapeClaims (programAt s (front t) x) (methodAt s (front t) x)) ≡ pass
+
+-- the scratch u has this method's marks, and the front of t
+pub record Restored (s t : List ℕ) (x : Site) (u : List ℕ) : Type 0 where
+  pub ready : Ready s u x
+  pub front : front u ≡ front t

@@ -1,5 +1,5 @@
 -- Where phase C passes, each method is fit for phase D: one Code, room for its parameters, its marks. Assumes nothing.
-use Prim.Native.Nat.{ℕ, zero, suc, _+_, _-_, _<_, _≤_}
+use Prim.Native.Nat.{ℕ, zero, suc, _+_, _<_, _≤_}
 use mathlib.Core.Path.{_≡_, refl, sym, ap, subst, _∙_}
 use mathlib.Core.Bool.{Bool, true, false, cond}
 use mathlib.Core.List.{List, [], _∷_, _++_}
@@ -10,7 +10,7 @@ use lib.ListN.{length, getD, length-drop}
 use lib.Seq.{getD-drop}
 use borrow.Author.Tests.{eq-eqb, ne-eqb, eqb-true, leb-true}
 use Rattle.kit.specs.Bools.{not-so}
-use Rattle.kit.specs.Claims.{Claim, claim, Ruling, pass, fail, verdict, then, relabel, fail-pass, then-pass-left, then-pass-right, relabel-pass, verdict-append}
+use Rattle.kit.specs.Claims.{Claim, claim, Ruling, pass, verdict, then, relabel, fail-pass, then-pass-left, then-pass-right, relabel-pass, verdict-append}
 use Rattle.reader.specs.Verdicts.{Fault, fault, inMethod}
 use Rattle.classfiles.specs.Members.{Found, none, once, twice, Body}
 use Rattle.classfiles.specs.Attributes.{foundOf}
@@ -21,17 +21,15 @@ use Rattle.reader.specs.MemberRows.{blockAt, rowCount}
 use Rattle.reader.specs.MemberAt.{methods-count}
 use Rattle.rules.specs.States.{parameterTys}
 use Rattle.rules.specs.Opcodes.{body}
-use Rattle.rules.specs.Lines.{Line, lines}
-use Rattle.rules.specs.Shape.{isOnce, notTwice, bodyClaims, formClaims, shapeClaims}
+use Rattle.rules.specs.Shape.{isOnce, notTwice, bodyClaims, shapeClaims}
 use Rattle.shaping.specs.Verify.{overMethods, overClasses, bundleClasses}
 use Rattle.rules.specs.Sites.{front, siteBody, programAt, methodAt, KnowsInit, Here}
-use Rattle.shaping.specs.Marks.{ruledAs, linesAt, Marked, Scanned, Ready}
-use Rattle.shaping.specs.ScanLaws.{here-front, init-front, lines-front, body-here}
+use Rattle.shaping.specs.Marks.{Ready, PassesShape, Restored}
+use Rattle.shaping.specs.ScanLaws.{init-front, body-here}
 use Rattle.shaping.specs.Located.{Located}
 use Rattle.shaping.specs.Kept.{here-by}
 use Rattle.shaping.specs.Phases.{Readied, programNow, shapeBy, judgedAt, ofAll}
 use Rattle.rules.specs.declared.site.Site.{Site}
-use Rattle.rules.specs.declared.site.Ruled.{Ruled}
 
 -- ---- where all pass, each does
 module _ (J : Method → Ruling Fault) where
@@ -89,12 +87,6 @@ module _ (P : Program) (M : Method) (h : shapeBy P M ≡ pass) where
   unfolding shapeClaims shapeBy
   body-pass = then-pass-left (verdict (bodyClaims M)) _ (sym (verdict-append (bodyClaims M) _) ∙ h)
 
-  pub form-pass : verdict (formClaims M (lines P M)) ≡ pass
-  unfolding shapeClaims shapeBy
-  form-pass =
-      then-pass-left (verdict (formClaims M (lines P M))) _
-      (sym (verdict-append (formClaims M (lines P M)) _) ∙ then-pass-right (verdict (bodyClaims M)) _ (sym (verdict-append (bodyClaims M) _) ∙ h))
-
   pub one-code : isOnce (M .body) ≡ true
   unfolding bodyClaims
   one-code = first-holds (fault 10 0) (isOnce (M .body)) _ body-pass
@@ -134,34 +126,19 @@ module _ (s t : List ℕ) (n c m : ℕ) (x : Site) (l : Located s n c m x (front
   pub codes-one : x .codes ≡ 1
   codes-one = found-once (x .codes) (siteBody s x) (ap isOnce (sym (l .sited .body)) ∙ one-code P M at-site)
 
-  pub mark-asked : 262144 ≤ length t → Here s t x × (x .codes ≡ 1) × (262144 ≤ length t)
-  mark-asked g = (here, codes-one, g)
+  pub restore-asked : 262144 ≤ length t → Here s t x × (x .codes ≡ 1) × (262144 ≤ length t) × PassesShape s t x
+  unfolding shapeBy
+  restore-asked g = (here, codes-one, g, at-site)
 
   locals-are : body M .maxLocals ≡ x .locals
   unfolding siteBody
   locals-are = ap (λ (b : Body). b .maxLocals) (body-here s t x here codes-one)
 
-  pub typable : (u : List ℕ) (r : Ruled) → 262144 ≤ length t → KnowsInit s (front t) x → Scanned s t x r u → Typable s n c m x t u
-  unfolding linesAt
-  typable u r g i z = record {
+  pub typable : (u : List ℕ) → KnowsInit s (front t) x → Restored s t x u → Typable s n c m x t u
+  typable u i z = record {
     located = l;
-    ready = record {
-      here = here-front s t u x (z .front) here;
-      one = codes-one;
-      long = omega (arith, g, z .long);
-      marks = subst (λ (ls : List Line). Marked ls (x .end - x .start) u) (sym (lines-front s t u x (z .front))) (z .marks none-refused);
-    };
+    ready = z .ready;
     init = init-front s t u x (z .front) i;
     room = subst (λ (f : List ℕ). length (parameterTys (methodAt s f x)) ≤ x .locals) (sym (z .front)) (omega (arith, few-params P M at-site, locals-are));
     front = z .front;
   }
-    where
-      passes : ruledAs r ≡ pass
-      passes = z .is ∙ form-pass P M at-site
-
-      go : (b : Bool) → eqb (r .number) 0 ≡ b → cond b pass (fail (fault (r .number) (r .place))) ≡ pass → r .number ≡ 0
-      go true p q = eqb-true (r .number) 0 p
-      go false p q = absurd (fail-pass (fault (r .number) (r .place)) q)
-
-      none-refused : r .number ≡ 0
-      none-refused = go (eqb (r .number) 0) refl passes

@@ -8,19 +8,21 @@ use native.Mathlib.Omega.{arith}
 use lib.Dec.{ltb, eqb}
 use lib.ListN.{length, getD, take, drop, replicate, length-take, length-drop, length-replicate}
 use lib.Seq.{take-take, take-append-le, length-take-le, getD-drop, ext-getD}
-use borrow.Author.Tests.{eqb-true, eq-eqb, ne-eqb, lt-ltb, le-ltb, not-true, not-false}
+use borrow.Author.Tests.{eqb-true, eqb-false, ltb-true, eq-eqb, ne-eqb, lt-ltb, le-ltb, not-true, not-false}
+use Rattle.kit.specs.Bools.{not-so}
 use Rattle.kit.specs.Lists.{eqList, eqList-true, drop-take, length-part, length-back, getD-back-after}
 use Rattle.kit.specs.Pick.{side}
-use Rattle.kit.specs.Words.{word, putWord, length-put, byte-other, word-take, word-part, word-same, word-other, word-zeros, word-back-in}
-use Rattle.texts.specs.Reading.{ok, u4At}
+use Rattle.kit.specs.Words.{word, putWord, length-put, byte-other, word-take, word-same, word-other, word-zeros, word-back-in}
+use Rattle.texts.specs.Reading.{Res, ok, bad, u2At, u4At, part}
 use Rattle.texts.specs.Names.{Text, isInit}
 use Rattle.texts.specs.Answers.{resAs, no-ok, no-bad}
-use Rattle.classfiles.specs.Descriptors.{cls, arr, Desc, dint, dref, classTypeAt, knownRef, knownDesc}
-use Rattle.classfiles.specs.Pool.{Constant, classAt, entry, text}
-use Rattle.classfiles.specs.Table.{poolIn, constantOf, IsText, entry-past}
+use Rattle.classfiles.specs.Descriptors.{Ref, cls, arr, Desc, dint, dref, classTypeAt, knownRef, knownDesc}
+use Rattle.classfiles.specs.Pool.{Constant, absent, utf8, integer, classAt, fieldref, methodref, nameAndType, constantAt, entry, text}
+use Rattle.classfiles.specs.Table.{constantOf, IsText, entry-none, entry-in, entry-past}
+use Rattle.classfiles.specs.Tags.{at-class, at-field, at-method}
 use Rattle.classfiles.specs.Bundle.{ClassFile}
 use Rattle.reader.specs.BuiltIns.{firstClass}
-use Rattle.reader.specs.Program.{Program, Class, Method, noField, noMethod, Signature, signature, class, method, classCount, numberIn, programOf, isConstructor, fieldSigs, methodSigs, sameSignature, nowhere, spot, lookup, layout}
+use Rattle.reader.specs.Program.{Program, Class, Method, noField, noMethod, Signature, signature, class, method, classCount, numberIn, programOf, isConstructor, fieldSigs, methodSigs, sameSignature, Spot, nowhere, spot, lookup, layout}
 use Rattle.classfiles.specs.Blocks.{poolWord, poolOf, classesIn}
 use Rattle.classfiles.specs.BlockWords.{take-put}
 use Rattle.reader.specs.Linked.{parentsAt, filesIn, Parents}
@@ -29,17 +31,17 @@ use Rattle.reader.specs.Prints.{Printed, same-back, printed-moved}
 use Rattle.reader.specs.Lookup.{hitOf, ownSpot, class-past, class-count, built-in-class}
 use Rattle.reader.specs.MemberAt.{fields-count, methods-count}
 use Rattle.reader.specs.TypeCodes as codes
-use Rattle.reader.specs.Access.{Limited, There, lookup-there, own-there, program-names, pool-at, integer-at}
+use Rattle.reader.specs.Access.{Limited, There, lookup-there, own-there, program-names, pool-at, tag-block}
 use Rattle.texts.specs.declared.items.Got.{Got}
 use Rattle.reader.specs.declared.lookup.Hit.{Hit}
 use Rattle.classfiles.specs.declared.pool.Span.{Span}
 use Rattle.classfiles.specs.declared.pool.Entry.{Entry}
-use Rattle.classfiles.specs.declared.pool.Entry.the-variants.{Integer}
 use Rattle.rules.specs.Instruction.{FieldRef, MethodRef}
-use Rattle.rules.specs.Resolve.{Resolved, nothing, number, type, field, methodOf, knownType, classEntry, withClass, withSignature, fieldFound, methodFound, ownMethod, fieldIn, methodIn, resolveEntry, resolve, found}
+use Rattle.rules.specs.Resolve.{Resolved, by, nothing, number, type, field, methodOf, numberOf, knownType, classEntry, withClass, withSignature, fieldFound, methodFound, ownMethod, fieldIn, methodIn, resolveEntry, resolve, found}
 use Rattle.rules.specs.TypeWords as tywords
 use Rattle.rules.specs.TypeCodes.{codeBase, codeRef}
 use Rattle.rules.specs.ResolvedWords as words
+use Rattle.rules.specs.Handlers.{classIn}
 
 -- a word stands for x, and a method's flags are right
 pub record Named (s : List ℕ) (P : Program) (x : Resolved) (w : ℕ) : Type 0 where
@@ -51,23 +53,43 @@ pub record ResolvedAll (s : List ℕ) (n : ℕ) (t : List ℕ) : Type 0 where
   pub at : (c i : ℕ) → c < n → words.resolvedIn s t c i ≡ resolve (programOf (filesIn s n t)) (class (programOf (filesIn s n t)) (firstClass + c) .pool) i
   pub flags : (c i : ℕ) → c < n → words.Flagged (programOf (filesIn s n t)) (words.wordOf t c i)
 
--- written to the scratch u, and nothing else was
-pub record Entered (s : List ℕ) (n : ℕ) (t u : List ℕ) : Type 0 where
-  pub front : take 103040 u ≡ take 103040 t
-  pub back : drop 168576 u ≡ drop 168576 t
-  pub all : ResolvedAll s n u
-
 -- a type's code, where there is one
 unfoldable pub typeAs : Got → Resolved
 typeAs r = cond (r .ok) (type (codeRef (r .val))) nothing
 
--- a class's number; 31 is none
-unfoldable pub numbered : ℕ → (ℕ → Resolved) → Resolved
-numbered r k = cond (ltb r 31) (k r) nothing
-
 abbrev pub memberIn : Program → Bool → ℕ → Signature → Resolved
 memberIn P true c g = methodIn P g c
 memberIn P false c g = fieldIn P g c
+
+-- a field or method: entry i is its class, entry j its name and descriptor
+abbrev pub referred : Program → List Constant → Bool → ℕ → ℕ → Resolved
+referred P pool method i j = withClass (classEntry P pool (entry pool i)) λ d. withSignature pool (entry pool j) (memberIn P method d)
+
+-- ---- two passes: the first finds what an entry is by itself, a number or a type, the second finds members
+abbrev ownEntry : Program → List Constant → Constant → Resolved
+ownEntry P pool absent = nothing
+ownEntry P pool (utf8 t) = nothing
+ownEntry P pool (integer v) = number v
+ownEntry P pool (classAt i) = classEntry P pool (classAt i)
+ownEntry P pool (fieldref i j) = nothing
+ownEntry P pool (methodref i j) = nothing
+ownEntry P pool (nameAndType i j) = nothing
+
+abbrev before : Bool → Program → List Constant → Constant → Resolved
+before members P pool x = cond members (ownEntry P pool x) nothing
+
+abbrev after : Bool → Program → List Constant → Constant → Resolved
+after members P pool x = cond members (resolveEntry P pool x) (ownEntry P pool x)
+
+-- what a pass finds of an entry; with 0 the word stays
+pub record Fills (s : List ℕ) (P : Program) (pool : List Constant) (members : Bool) (x : Constant) (w : ℕ) : Type 0 where
+  pub none : w ≡ 0 → before members P pool x ≡ after members P pool x
+  pub some : (w ≡ 0 → ⊥) → Named s P (after members P pool x) w
+
+-- words tell the classes that entries name
+pub record Classed (s : List ℕ) (n : ℕ) (t : List ℕ) : Type 0 where
+  pub at : (c i : ℕ) → c < n → (k : ℕ → Resolved)
+      → withClass (words.resolvedIn s t c i) k ≡ withClass (classEntry (programOf (filesIn s n t)) (poolOf s (blockAt t c)) (entry (poolOf s (blockAt t c)) i)) k
 
 unfoldable pub typeWord : Got → ℕ
 typeWord d = cond (d .ok) (2 + 8 * d .val) 0
@@ -233,26 +255,6 @@ module _ (s : List ℕ) (P : Program) where
           };
         }
 
--- ---- the class that a code stands for
-module _ (d : Got) where
-  pub number-none : not (d .ok) ≡ true → (k : ℕ → Resolved) → numbered 31 k ≡ withClass (typeAs d) k
-  unfolding numbered typeAs
-  number-none h k = sym (rw (not-true (d .ok) h))
-
-  pub number-class : not (d .ok) ≡ false → d .val % 8 ≡ 0 → d .val < 256 → (d .val ≡ 248 → ⊥) → (k : ℕ → Resolved) → numbered (d .val / 8) k ≡ withClass (typeAs d) k
-  unfolding numbered typeAs codeRef
-  number-class h e l n k =
-      let z : d .val / 8 < 31 = below (side (d .val / 8) 31) in
-      rw (lt-ltb (d .val / 8) 31 z) (sym (rw (not-false (d .ok) h, eq-eqb (d .val % 8) 0 e)))
-    where
-      below : (d .val / 8 < 31) ⊎ (31 ≤ d .val / 8) → d .val / 8 < 31
-      below (inl x) = x
-      below (inr x) = absurd (n (omega arith))
-
-  pub number-array : not (d .ok) ≡ false → (d .val % 8 ≡ 0 → ⊥) → (k : ℕ → Resolved) → numbered 31 k ≡ withClass (typeAs d) k
-  unfolding numbered typeAs codeRef
-  number-array h e k = sym (rw (not-false (d .ok) h, ne-eqb (d .val % 8) 0 e))
-
 -- ---- what a Class names
 module _ (s : List ℕ) (n : ℕ) (t : List ℕ) (m : n ≤ 16) (pool : List Constant) (i : ℕ) where
   abbrev P₁ : Program
@@ -294,14 +296,6 @@ module _ (s : List ℕ) (e v : Entry) (x : Constant) (p : constantOf s e ≡ x) 
   pub entry-is : constantOf s v ≡ x
   entry-is = ap (constantOf s) (sym k) ∙ p
 
-  pub class-none : (P : Program) (pool : List Constant) → nothing ≡ classEntry P pool (constantOf s v) → (f : ℕ → Resolved) → numbered 31 f ≡ withClass (classEntry P pool x) f
-  unfolding numbered
-  class-none P pool h f = ap (λ (q : Resolved). withClass q f) h ∙ ap (λ (y : Constant). withClass (classEntry P pool y) f) entry-is
-
-  pub class-some : (P : Program) (pool : List Constant) (d : Got) (r : ℕ) → typeAs d ≡ classEntry P pool (constantOf s v) → ((f : ℕ → Resolved) → numbered r f ≡ withClass (typeAs d) f)
-      → (f : ℕ → Resolved) → numbered r f ≡ withClass (classEntry P pool x) f
-  class-some P pool d r h g f = g f ∙ ap (λ (q : Resolved). withClass q f) h ∙ ap (λ (y : Constant). withClass (classEntry P pool y) f) entry-is
-
   pub signature-none : (P : Program) (pool : List Constant) (f : Signature → Resolved) → nothing ≡ withSignature pool (constantOf s v) f → Named s P (withSignature pool x f) 0
   signature-none P pool f h = named-none s P (withSignature pool x f) (h ∙ ap (λ (y : Constant). withSignature pool y f) entry-is)
 
@@ -321,18 +315,229 @@ module _ (s : List ℕ) (P : Program) (w : ℕ) where
   pub member-field : (m : Bool) (c : ℕ) (g : Signature) → m ≡ false → Named s P (fieldIn P g c) w → Named s P (memberIn P m c g) w
   member-field m c g e h = rw e h
 
-  pub reference-some : (r : ℕ) (q : Resolved) (f : ℕ → Resolved) → ((k : ℕ → Resolved) → numbered r k ≡ withClass q k) → r < 31 → Named s P (f r) w → Named s P (withClass q f) w
-  unfolding numbered
-  reference-some r q f h l n = named-as s P (f r) (withClass q f) w n (sym (rw (lt-ltb r 31 l)) ∙ h f)
+-- ---- an entry by its tag
+pub entry-there : (s t : List ℕ) (c i q : ℕ) → 102912 ≤ length t → c < 16 → 0 < i → i < 1024 → i < word t (1608 * c + 1025) → q ≡ word (blockAt t c) i → constantAt s q ≡ entry (poolOf s (blockAt t c)) i
+unfolding poolOf
+entry-there s t c i q a m g l h e =
+    let b : List ℕ = blockAt t c in
+    let z : word t (1608 * c + 1025) ≡ word b poolWord = tag-block t c poolWord _ (omega arith) refl in
+    let d : length b ≡ 6432 = length-part (6432 * c) 6432 t (omega arith) in
+    let x : i < length (take (4 * word b poolWord) b) / 4 = omega (arith, z, d, length-take (4 * word b poolWord) b) in
+    entry-in s (take (4 * word b poolWord) b) i (constantAt s q) q (λ y. omega arith) x refl (e ∙ sym (word-take (4 * word b poolWord) b i (omega (arith, z))))
 
-pub reference-none : (s : List ℕ) (P : Program) (r : ℕ) (q : Resolved) (f : ℕ → Resolved) → ((k : ℕ → Resolved) → numbered r k ≡ withClass q k) → 31 ≤ r → Named s P (withClass q f) 0
-unfolding numbered
-reference-none s P r q f h l = named-none s P (withClass q f) (sym (rw (le-ltb r 31 l)) ∙ h f)
+module _ (s : List ℕ) (q : ℕ) (P : Program) (pool : List Constant) (x : Constant) (k : ℕ) (p : constantAt s q ≡ x) (e : k ≡ getD s q 0) where
+  -- the first pass
+  fills-own : (w : ℕ) → Named s P (ownEntry P pool x) w → Fills s P pool false x w
+  unfolding words.resolvedAs
+  fills-own w h = record { none = λ z. ap (words.resolvedOf s) (sym z) ∙ h .is; some = λ n. h }
 
-module _ (s : List ℕ) (e v : Entry) (pool : List Constant) (i : ℕ) (p : constantOf s e ≡ entry pool i) (k : e ≡ v) (P : Program) where
-  pub resolve-as : (x : Resolved) (w : ℕ) → Named s P x w → x ≡ resolveEntry P pool (constantOf s v) → Named s P (resolve P pool i) w
-  unfolding resolve
-  resolve-as x w h z = named-as s P x (resolve P pool i) w h (z ∙ ap (resolveEntry P pool) (entry-is s e v (entry pool i) p k))
+  pub own-number : k ≡ 3 → Fills s P pool false x (1 + 8 * q)
+  unfolding constantAt
+  own-number t =
+      let z : integer (u4At s (q + 1)) ≡ x = sym (rw (← e, t)) ∙ p in
+      fills-own (1 + 8 * q) (named-as s P _ _ _ (named-number s P q (u4At s (q + 1)) refl) (ap (ownEntry P pool) z))
+
+  pub own-type : (a w : ℕ) → k ≡ 7 → a ≡ u2At s (q + 1) → (d : Got) → typeAs d ≡ classEntry P pool (classAt a) → d .val < 256 → w ≡ typeWord d → Fills s P pool false x w
+  own-type a w t h d y l z = fills-own w (named-as s P _ _ w (named-type s P d w z l) (y ∙ ap (ownEntry P pool) (sym (at-class s q x k p e a t h))))
+
+  pub own-none : (k ≡ 3 → ⊥) → (k ≡ 7 → ⊥) → Fills s P pool false x 0
+  unfolding constantAt
+  own-none a b = fills-own 0 (named-none s P _ (rw (← e, ne-eqb k 3 a, ne-eqb k 7 b) (go (eqb k 1) (eqb k 9) (eqb k 10) (eqb k 12)) ∙ ap (ownEntry P pool) p))
+    where
+      go : (b c d f : Bool) → nothing ≡ ownEntry P pool (cond b (utf8 (part s (q + 3) (u2At s (q + 1)))) (cond c (fieldref (u2At s (q + 1)) (u2At s (q + 3))) (cond d (methodref (u2At s (q + 1)) (u2At s (q + 3))) (cond f (nameAndType (u2At s (q + 1)) (u2At s (q + 3))) absent))))
+      go true c d f = refl
+      go false true d f = refl
+      go false false true f = refl
+      go false false false true = refl
+      go false false false false = refl
+
+  -- the second
+  fills-reference : (y : Constant) (w : ℕ) → x ≡ y → ownEntry P pool y ≡ nothing → Named s P (resolveEntry P pool y) w → Fills s P pool true x w
+  unfolding words.resolvedAs
+  fills-reference y w z o h = rw z (record { none = λ u. o ∙ ap (words.resolvedOf s) (sym u) ∙ h .is; some = λ n. h })
+
+  pub refers-field : (w : ℕ) → k ≡ 9 → Named s P (referred P pool false (u2At s (q + 1)) (u2At s (q + 3))) w → Fills s P pool true x w
+  refers-field w t h = fills-reference (fieldref (u2At s (q + 1)) (u2At s (q + 3))) w (at-field s q x k p e _ _ t refl refl) refl h
+
+  pub refers-method : (w : ℕ) → k ≡ 10 → Named s P (referred P pool true (u2At s (q + 1)) (u2At s (q + 3))) w → Fills s P pool true x w
+  refers-method w t h = fills-reference (methodref (u2At s (q + 1)) (u2At s (q + 3))) w (at-method s q x k p e _ _ t refl refl) refl h
+
+  pub refers-none : (k ≡ 9 → ⊥) → (k ≡ 10 → ⊥) → Fills s P pool true x 0
+  unfolding constantAt
+  refers-none a b = record { none = λ z. same; some = λ n. absurd (n refl) }
+    where
+      left : Bool → Bool → Bool → Bool → Constant
+      left b c d f = cond b (utf8 (part s (q + 3) (u2At s (q + 1)))) (cond c (integer (u4At s (q + 1))) (cond d (classAt (u2At s (q + 1))) (cond f (nameAndType (u2At s (q + 1)) (u2At s (q + 3))) absent)))
+
+      go : (b c d f : Bool) → ownEntry P pool (left b c d f) ≡ resolveEntry P pool (left b c d f)
+      go true c d f = refl
+      go false true d f = refl
+      go false false true f = refl
+      go false false false true = refl
+      go false false false false = refl
+
+      same : ownEntry P pool x ≡ resolveEntry P pool x
+      same = subst (λ (y : Constant). ownEntry P pool y ≡ resolveEntry P pool y) (rw (← e, ne-eqb k 9 a, ne-eqb k 10 b) at p) (go (eqb k 1) (eqb k 3) (eqb k 7) (eqb k 12))
+
+pub fills-as : (s : List ℕ) (P : Program) (pool : List Constant) (x : Constant) (w : ℕ) (a b : Bool) → a ≡ b → Fills s P pool b x w → Fills s P pool a x w
+fills-as s P pool x w a b e h = subst (λ (z : Bool). Fills s P pool z x w) (sym e) h
+
+-- ---- the class that an entry names, by its word
+module _ (k : ℕ → Resolved) where
+  -- what names a member names no class
+  in-class : (q : Resolved) (f : ℕ → Resolved) → ((d : ℕ) → nothing ≡ withClass (f d) k) → nothing ≡ withClass (withClass q f) k
+  in-class nothing f h = refl
+  in-class (number v) f h = refl
+  in-class (type (cls c)) f h = h c
+  in-class (type (arr d)) f h = refl
+  in-class (field x) f h = refl
+  in-class (methodOf x) f h = refl
+
+  in-signature : (pool : List Constant) (y : Constant) (f : Signature → Resolved) → ((g : Signature) → nothing ≡ withClass (f g) k) → nothing ≡ withClass (withSignature pool y f) k
+  in-signature pool absent f h = refl
+  in-signature pool (utf8 t) f h = refl
+  in-signature pool (integer v) f h = refl
+  in-signature pool (classAt i) f h = refl
+  in-signature pool (fieldref i j) f h = refl
+  in-signature pool (methodref i j) f h = refl
+  in-signature pool (nameAndType i j) f h = h (signature (text pool i) (text pool j))
+
+  module _ (P : Program) where
+    no-field : (g : Signature) (c : ℕ) → nothing ≡ withClass (fieldIn P g c) k
+    unfolding fieldIn
+    no-field g c = go (lookup P fieldSigs g c)
+      where
+        go : (x : Spot) → nothing ≡ withClass (fieldFound P c x) k
+        go nowhere = refl
+        go (spot d j) = refl
+
+    no-method : (g : Signature) (c : ℕ) → nothing ≡ withClass (methodIn P g c) k
+    unfolding methodIn
+    no-method g c = go (cond (isInit (g .name)) (ownMethod P c g) (lookup P methodSigs g c))
+      where
+        go : (x : Spot) → nothing ≡ withClass (methodFound c x) k
+        go nowhere = refl
+        go (spot d j) = refl
+
+    by-own : (pool : List Constant) (x : Constant) → withClass (ownEntry P pool x) k ≡ withClass (classEntry P pool x) k
+    by-own pool absent = refl
+    by-own pool (utf8 t) = refl
+    by-own pool (integer v) = refl
+    by-own pool (classAt i) = refl
+    by-own pool (fieldref i j) = refl
+    by-own pool (methodref i j) = refl
+    by-own pool (nameAndType i j) = refl
+
+    by-class : (pool : List Constant) (x : Constant) → withClass (resolveEntry P pool x) k ≡ withClass (classEntry P pool x) k
+    by-class pool absent = refl
+    by-class pool (utf8 t) = refl
+    by-class pool (integer v) = refl
+    by-class pool (classAt i) = refl
+    by-class pool (fieldref i j) = sym (in-class (classEntry P pool (entry pool i)) _ (λ c. in-signature pool (entry pool j) _ (λ g. no-field g c)))
+    by-class pool (methodref i j) = sym (in-class (classEntry P pool (entry pool i)) _ (λ c. in-signature pool (entry pool j) _ (λ g. no-method g c)))
+    by-class pool (nameAndType i j) = refl
+
+-- a class that is named is known
+module _ (P : Program) (r : ℕ) where
+  no-number : number r ≡ nothing → r < classCount P
+  no-number h = absurd (not-so (sym (ap (by false (λ v. true) (λ x. false) (λ f. false) (λ m. false)) h)))
+
+  known-type : (q : Res Ref) → number r ≡ withClass (knownType P q) number → r < classCount P
+  unfolding knownRef
+  known-type (bad n p) h = no-number h
+  known-type (ok (arr d) e) h = go (knownDesc (classCount P) d) h
+    where
+      go : (b : Bool) → number r ≡ withClass (cond b (type (arr d)) nothing) number → r < classCount P
+      go true x = no-number x
+      go false x = no-number x
+  known-type (ok (cls c) e) h = go (ltb c (classCount P)) refl h
+    where
+      go : (b : Bool) → ltb c (classCount P) ≡ b → number r ≡ withClass (cond b (type (cls c)) nothing) number → r < classCount P
+      go false y x = no-number x
+      go true y x = let z : r ≡ c = ap (by 0 (λ v. v) (λ y. 0) (λ f. 0) (λ m. 0)) x in omega (arith, z, ltb-true c (classCount P) y)
+
+  known-class : (pool : List Constant) (x : Constant) → number r ≡ withClass (classEntry P pool x) number → r < classCount P
+  known-class pool absent h = no-number h
+  known-class pool (utf8 t) h = no-number h
+  known-class pool (integer v) h = no-number h
+  known-class pool (classAt i) h = known-type (classTypeAt (numberOf P) (text pool i) 0) h
+  known-class pool (fieldref i j) h = no-number h
+  known-class pool (methodref i j) h = no-number h
+  known-class pool (nameAndType i j) h = no-number h
+
+-- a type's word, of a class and of another
+module _ (v w : ℕ) where
+  class-word : w % 64 ≡ 2 → words.resolvedAs v w ≡ type (cls (w / 64 % 32))
+  unfolding words.resolvedAs codeRef
+  class-word e =
+      let a : w % 8 ≡ 2 = omega arith in
+      let b : w / 8 ≡ 8 * (w / 64 % 32) + 256 * (w / 64 / 32) = omega arith in
+      let c : w / 8 % 256 ≡ 8 * (w / 64 % 32) = low256 (w / 8) (8 * (w / 64 % 32)) (w / 64 / 32) (omega arith) b in
+      rw (ne-eqb (w % 8) 1 (λ z. omega (arith, a)), eq-eqb (w % 8) 2 a, eq-eqb (w / 8 % 256 % 8) 0 (omega (arith, c)))
+      (ap (λ (d : ℕ). type (cls d)) (omega (arith, c)))
+
+  other-word : (w % 64 ≡ 2 → ⊥) → (k : ℕ → Resolved) → nothing ≡ withClass (words.resolvedAs v w) k
+  unfolding words.resolvedAs codeRef
+  other-word n k = go (eqb (w % 8) 1) (eqb (w % 8) 2) (eqb (w % 8) 3) (eqb (w % 8) 4) (eqb (w / 8 % 256 % 8) 0) refl refl
+    where
+      go : (a b c d e : Bool) → eqb (w % 8) 2 ≡ b → eqb (w / 8 % 256 % 8) 0 ≡ e
+          → nothing ≡ withClass (cond a (number v) (cond b (type (cond e (cls (w / 8 % 256 / 8)) (arr (tywords.nest (codeBase (w / 8 % 256 / 8)) (w / 8 % 256 % 8 - 1))))) (cond c (field (words.fieldIn w)) (cond d (methodOf (words.methodIn w)) nothing)))) k
+      go true b c d e x y = refl
+      go false true c d true x y =
+          let p : w % 8 ≡ 2 = eqb-true (w % 8) 2 x in
+          let q : w / 8 % 256 % 8 ≡ 0 = eqb-true (w / 8 % 256 % 8) 0 y in
+          let o : w / 8 % 8 ≡ 0 = omega arith in
+          absurd (n (omega (arith, p, o)))
+      go false true c d false x y = refl
+      go false false true d e x y = refl
+      go false false false true e x y = refl
+      go false false false false e x y = refl
+
+module _ (w v : ℕ) (e : w ≡ v) where
+  pub class-here : w % 64 ≡ 2 → w / 64 % 32 ≡ classIn 31 v
+  unfolding classIn
+  class-here h = sym (rw (← e, eq-eqb (w % 64) 2 h))
+
+  pub class-nowhere : (w % 64 ≡ 2 → ⊥) → 31 ≡ classIn 31 v
+  unfolding classIn
+  class-nowhere h = sym (rw (← e, ne-eqb (w % 64) 2 h))
+
+-- the member that entries i and j tell, by the class's number r
+module _ (s : List ℕ) (n : ℕ) (t : List ℕ) (m : n ≤ 16) (h : Classed s n t) (c : ℕ) (l : c < n) (method : Bool) (a i j r : ℕ) (e : a ≡ i) (f : r ≡ classIn 31 (words.wordOf t c a)) where
+  abbrev P₃ : Program
+  P₃ = programOf (filesIn s n t)
+
+  abbrev pool₃ : List Constant
+  pool₃ = poolOf s (blockAt t c)
+
+  abbrev W₃ : ℕ
+  W₃ = words.wordOf t c a
+
+  abbrev member : ℕ → ℕ → Resolved
+  member b d = withSignature pool₃ (entry pool₃ b) (memberIn P₃ method d)
+
+  its-class : W₃ % 64 ≡ 2 → (k : ℕ → Resolved) → k (W₃ / 64 % 32) ≡ withClass (classEntry P₃ pool₃ (entry pool₃ a)) k
+  its-class z k = ap (λ (q : Resolved). withClass q k) (sym (class-word (u4At s (W₃ / 8 + 1)) W₃ z)) ∙ h .at c a l k
+
+  pub reference-some : (b w : ℕ) → b ≡ j → r < 31 → Named s P₃ (member b r) w → Named s P₃ (referred P₃ pool₃ method i j) w
+  unfolding classIn
+  reference-some b w g x y =
+      subst (λ (u : ℕ). Named s P₃ (referred P₃ pool₃ method i u) w) g
+      (subst (λ (u : ℕ). Named s P₃ (referred P₃ pool₃ method u b) w) e (named-as s P₃ (member b r) _ w y (go (eqb (W₃ % 64) 2) refl f)))
+    where
+      go : (b′ : Bool) → eqb (W₃ % 64) 2 ≡ b′ → r ≡ cond b′ (W₃ / 64 % 32) 31 → member b r ≡ referred P₃ pool₃ method a b
+      go true z u = ap (member b) u ∙ its-class (eqb-true (W₃ % 64) 2 z) (member b)
+      go false z u = absurd (omega arith)
+
+  pub reference-none : 31 ≤ r → Named s P₃ (referred P₃ pool₃ method i j) 0
+  unfolding classIn
+  reference-none x = subst (λ (u : ℕ). Named s P₃ (referred P₃ pool₃ method u j) 0) e (named-none s P₃ (referred P₃ pool₃ method a j) (go (eqb (W₃ % 64) 2) refl f))
+    where
+      go : (b′ : Bool) → eqb (W₃ % 64) 2 ≡ b′ → r ≡ cond b′ (W₃ / 64 % 32) 31 → nothing ≡ referred P₃ pool₃ method a j
+      go true z u =
+          let y : W₃ / 64 % 32 < classCount P₃ = known-class P₃ (W₃ / 64 % 32) pool₃ (entry pool₃ a) (its-class (eqb-true (W₃ % 64) 2 z) number) in
+          absurd (omega (arith, y, class-count s n t m))
+      go false z u = other-word (u4At s (W₃ / 8 + 1)) W₃ (eqb-false (W₃ % 64) 2 z) (member j) ∙ h .at c a l (member j)
 
 -- ---- members that are found
 length-sigs : {A : Type 0} (f : A → Signature) (l : List A) → length (map f l) ≡ length l
@@ -473,7 +678,7 @@ module _ (s : List ℕ) (n : ℕ) (t u : List ℕ) (m : n ≤ 16) (e : take 1030
       part : (l : List ℕ) → take 6432 (drop (6432 * c) (take 103040 l)) ≡ take 6432 (drop (6432 * c) l)
       part l = ap (take 6432) (drop-take (6432 * c) 103040 l) ∙ take-take 6432 (103040 - 6432 * c) (drop (6432 * c) l) (omega arith)
 
-  word-below : (k : ℕ) → k < 25760 → word u k ≡ word t k
+  pub word-below : (k : ℕ) → k < 25760 → word u k ≡ word t k
   word-below k h = sym (word-take 103040 u k (omega arith)) ∙ ap (λ (l : List ℕ). word l k) e ∙ word-take 103040 t k (omega arith)
 
   pub parents-same : Parents s n t → Parents s n u
@@ -487,43 +692,58 @@ module _ (s : List ℕ) (n : ℕ) (t u : List ℕ) (m : n ≤ 16) (e : take 1030
   }
 
   -- nor do the prints behind it
-  pub printed-same : drop 168576 u ≡ drop 168576 t → length u ≡ length t → Printed s n t → Printed s n u
+  printed-same : drop 168576 u ≡ drop 168576 t → length u ≡ length t → Printed s n t → Printed s n u
   printed-same b l h = printed-moved s n t u m (below-same parentsAt (omega arith)) (same-back 168576 187008 t u (omega arith) b) l h
 
--- past the end of the pool there is nothing
-pub past-word : (s : List ℕ) (P : Program) (t : List ℕ) (c i w : ℕ) → w ≡ word t (1608 * c + 1025) → w ≤ i → Named s P (resolve P (poolOf s (blockAt t c)) i) 0
-unfolding resolve poolOf
-past-word s P t c i w e g =
+-- around the table u is as t
+pub record Around (t u : List ℕ) : Type 0 where
+  pub front : take 103040 u ≡ take 103040 t
+  pub back : drop 168576 u ≡ drop 168576 t
+  pub long : length u ≡ length t
+
+pub around-same : (t : List ℕ) → Around t t
+around-same t = record { front = refl; back = refl; long = refl }
+
+pub around-both : (t u v : List ℕ) → Around t u → Around u v → Around t v
+around-both t u v a b = record { front = b .front ∙ a .front; back = b .back ∙ a .back; long = b .long ∙ a .long }
+
+pub around-put : (t v : List ℕ) (k w : ℕ) → 25760 ≤ k → k < 42144 → v ≡ putWord t k w → Around t v
+around-put t v k w l g e = record {
+  front = ap (take 103040) e ∙ take-put 25760 t k w l;
+  back = ap (drop 168576) e ∙ drop-put 42144 t k w g;
+  long = ap length e ∙ length-put t k w;
+}
+
+pub tables-same : (s : List ℕ) (n : ℕ) (t u : List ℕ) → n ≤ 16 → Around t u → Parents s n t → Limited n t → Printed s n t → Parents s n u × Limited n u × Printed s n u
+tables-same s n t u m a p l d = (parents-same s n t u m (a .front) p, limited-same s n t u m (a .front) l, printed-same s n t u m (a .front) (a .back) (a .long) d)
+
+-- the words of the n classes are clear
+pub record Blanked (n : ℕ) (t : List ℕ) : Type 0 where
+  pub at : (j : ℕ) → j < 1024 * n → word t (25760 + j) ≡ 0
+
+-- past a pool's end stands no entry
+past-at : (s t : List ℕ) (c i e : ℕ) → e ≡ word t (1608 * c + 1025) → e ≤ i → absent ≡ entry (poolOf s (blockAt t c)) i
+unfolding poolOf
+past-at s t c i e z g =
     let b : List ℕ = blockAt t c in
-    let z : word b poolWord ≡ word t (1608 * c + 1025) = word-block in
-    named-none s P _
-    (ap (resolveEntry P (poolIn s (take (4 * word b poolWord) b)))
-    (entry-past s (take (4 * word b poolWord) b) i (omega (arith, z, e, g, length-take (4 * word b poolWord) b))))
-  where
-    word-block : word (blockAt t c) poolWord ≡ word t (1608 * c + 1025)
-    word-block =
-        let m : 6432 * c ≡ 4 * (1608 * c) = omega arith in
-        ap (λ (k : ℕ). word (take 6432 (drop k t)) 1025) m ∙ word-part (1608 * c) 6432 t 1025 (omega arith)
+    entry-past s (take (4 * word b poolWord) b) i (omega (arith, g, tag-block t c poolWord e (omega arith) z, length-take (4 * word b poolWord) b))
 
--- the words of the n classes are clear, and all else is as it was
-pub record Blanked (n : ℕ) (t u : List ℕ) : Type 0 where
-  pub front : take 103040 u ≡ take 103040 t
-  pub back : drop 168576 u ≡ drop 168576 t
-  pub long : length u ≡ length t
-  pub at : (j : ℕ) → j < 1024 * n → word u (25760 + j) ≡ 0
+pub count-most : (n : ℕ) (t : List ℕ) → Limited n t → (c e : ℕ) → c < n → e ≡ word t (1608 * c + 1025) → e ≤ 1024
+count-most n t lim c e l z = omega (arith, tag-block t c poolWord e (omega arith) z, lim .pool c l)
 
-pub blank-still : (n : ℕ) (t u : List ℕ) → Blanked n t u → Blanked n u u
-blank-still n t u b = record { front = refl; back = refl; long = refl; at = b .at }
+-- what f says of entry i of class c
+abbrev said : List ℕ → ℕ → List ℕ → (Program → List Constant → Constant → Resolved) → ℕ → ℕ → Resolved
+said s n t f c i = f (programOf (filesIn s n t)) (poolOf s (blockAt t c)) (entry (poolOf s (blockAt t c)) i)
 
--- the first k words are there, and the others are clear
-pub record Filled (s : List ℕ) (n k : ℕ) (t u : List ℕ) : Type 0 where
-  pub front : take 103040 u ≡ take 103040 t
-  pub back : drop 168576 u ≡ drop 168576 t
-  pub long : length u ≡ length t
-  pub at : (j : ℕ) → j < k → Named s (programOf (filesIn s n t)) (resolve (programOf (filesIn s n t)) (poolOf s (blockAt t (j / 1024))) (j % 1024)) (word u (25760 + j))
-  pub clear : (j : ℕ) → k ≤ j → j < 1024 * n → word u (25760 + j) ≡ 0
+abbrev Tells : List ℕ → ℕ → List ℕ → (Program → List Constant → Constant → Resolved) → ℕ → ℕ → ℕ → Type 0
+Tells s n t f c i w = Named s (programOf (filesIn s n t)) (said s n t f c i) w
 
--- what clearing them leaves
+-- a pass that has come to place k
+pub record Filled (s : List ℕ) (n : ℕ) (members : Bool) (k : ℕ) (t : List ℕ) : Type 0 where
+  pub done : (c i : ℕ) → c < n → i < 1024 → 1024 * c + i < k → Tells s n t (after members) c i (word t (words.resolvedWord c i))
+  pub left : (c i : ℕ) → c < n → i < 1024 → k ≤ 1024 * c + i → Tells s n t (before members) c i (word t (words.resolvedWord c i))
+
+-- what clearing the words leaves
 module _ (t m : List ℕ) (n k : ℕ) (e : k ≡ 4096 * n) (h : n ≤ 16) (l : 168576 ≤ length t) (q : m ≡ replicate (length (take k (drop 103040 t))) 0) where
   abbrev blanked : List ℕ
   blanked = take 103040 t ++ (m ++ drop k (drop 103040 t))
@@ -549,112 +769,105 @@ module _ (t m : List ℕ) (n k : ℕ) (e : k ≡ 4096 * n) (h : n ≤ 16) (l : 1
   blank-at : (j : ℕ) → j < 1024 * n → word blanked (25760 + j) ≡ 0
   blank-at j b = word-back-in t m 25760 k wide room j (omega arith) ∙ ap (λ (z : List ℕ). word z j) q ∙ word-zeros (length (take k (drop 103040 t))) j
 
-  pub blank-is : Blanked n t blanked
-  blank-is = record { front = blank-front; back = blank-back; long = blank-long; at = blank-at }
+  pub blank-is : Around t blanked × Blanked n blanked
+  blank-is = (record { front = blank-front; back = blank-back; long = blank-long }, record { at = blank-at })
 
 module _ (s : List ℕ) (n : ℕ) (t : List ℕ) (m : n ≤ 16) where
-  pub filled-none : Blanked n t t → Filled s n 0 t t
-  filled-none b = record { front = refl; back = refl; long = refl; at = λ j h. absurd (omega arith); clear = λ j h l. b .at j l }
+  abbrev P₄ : Program
+  P₄ = programOf (filesIn s n t)
 
-  module _ (k : ℕ) (u : List ℕ) (h : Filled s n k t u) where
-    pub filled-more : (v : List ℕ) (w : ℕ) → k < 1024 * n → 168576 ≤ length t → w < 2 ^ 32
-        → Named s (programOf (filesIn s n u)) (resolve (programOf (filesIn s n u)) (poolOf s (blockAt u (k / 1024))) (k % 1024)) w → v ≡ putWord u (25760 + k) w → Filled s n (k + 1) t v
-    filled-more v w l r b q e = record {
-      front = ap (take 103040) e ∙ take-put 25760 u (25760 + k) w (omega arith) ∙ h .front;
-      back = ap (drop 168576) e ∙ drop-put 42144 u (25760 + k) w (omega arith) ∙ h .back;
-      long = ap length e ∙ length-put u (25760 + k) w ∙ h .long;
-      at = λ j g. go j g (side j k);
-      clear = λ j g i. ap (λ (x : List ℕ). word x (25760 + j)) e ∙ word-other u (25760 + k) w (25760 + j) (λ y. omega arith) ∙ h .clear j (omega arith) i;
-    }
+  pub filled-blank : Blanked n t → Filled s n false 0 t
+  filled-blank b = record { done = λ c i l g h. absurd (omega arith); left = λ c i l g h. subst (Tells s n t (before false) c i) (sym (zero-at c i l g)) (named-none s P₄ nothing refl) }
+    where
+      zero-at : (c i : ℕ) → c < n → i < 1024 → word t (words.resolvedWord c i) ≡ 0
+      zero-at c i l g = let y : words.resolvedWord c i ≡ 25760 + (1024 * c + i) = omega arith in ap (word t) y ∙ b .at (1024 * c + i) (omega arith)
+
+  pub filled-next : Filled s n false (1024 * n) t → Filled s n true 0 t
+  filled-next h = record { done = λ c i l g x. absurd (omega arith); left = λ c i l g x. h .done c i l g (omega arith) }
+
+  module _ (members : Bool) (k : ℕ) (h : Filled s n members k t) where
+    -- words that stay
+    filled-keep : (r : ℕ) → k ≤ r → ((c i : ℕ) → i < 1024 → k ≤ 1024 * c + i → 1024 * c + i < r → said s n t (before members) c i ≡ said s n t (after members) c i) → Filled s n members r t
+    filled-keep r l f = record { done = λ c i a b g. go c i a b g (side (1024 * c + i) k); left = λ c i a b g. h .left c i a b (omega arith) }
       where
-        fs : filesIn s n u ≡ filesIn s n t
-        fs = files-same s n t u m (h .front)
+        go : (c i : ℕ) → c < n → i < 1024 → 1024 * c + i < r → (1024 * c + i < k) ⊎ (k ≤ 1024 * c + i) → Tells s n t (after members) c i (word t (words.resolvedWord c i))
+        go c i a b g (inl x) = h .done c i a b x
+        go c i a b g (inr x) = named-as s P₄ _ _ _ (h .left c i a b x) (f c i b x g)
 
-        moved : Named s (programOf (filesIn s n t)) (resolve (programOf (filesIn s n t)) (poolOf s (blockAt t (k / 1024))) (k % 1024)) w
-        moved = subst (λ (x : List ℕ). Named s (programOf (filesIn s n t)) (resolve (programOf (filesIn s n t)) (poolOf s x) (k % 1024)) w) (block-same s n t u m (h .front) (k / 1024) (omega arith))
-            (subst (λ (x : List ClassFile). Named s (programOf x) (resolve (programOf x) (poolOf s (blockAt u (k / 1024))) (k % 1024)) w) fs q)
-
-        go : (j : ℕ) → j < k + 1 → (j < k) ⊎ (k ≤ j) → Named s (programOf (filesIn s n t)) (resolve (programOf (filesIn s n t)) (poolOf s (blockAt t (j / 1024))) (j % 1024)) (word v (25760 + j))
-        go j g (inl x) =
-            let z : word v (25760 + j) ≡ word u (25760 + j) = ap (λ (l : List ℕ). word l (25760 + j)) e ∙ word-other u (25760 + k) w (25760 + j) (λ y. omega arith) in
-            subst (Named s (programOf (filesIn s n t)) (resolve (programOf (filesIn s n t)) (poolOf s (blockAt t (j / 1024))) (j % 1024))) (sym z) (h .at j x)
-        go j g (inr x) =
-            let y : k ≡ j = omega arith in
-            let z : word v (25760 + k) ≡ w = ap (λ (l : List ℕ). word l (25760 + k)) e ∙ word-same u (25760 + k) w (omega (arith, h .long)) b in
-            subst (λ (i : ℕ). Named s (programOf (filesIn s n t)) (resolve (programOf (filesIn s n t)) (poolOf s (blockAt t (i / 1024))) (i % 1024)) (word v (25760 + i))) y
-            (subst (Named s (programOf (filesIn s n t)) (resolve (programOf (filesIn s n t)) (poolOf s (blockAt t (k / 1024))) (k % 1024))) (sym z) moved)
-
-    -- the rest of class k / 1024 is past its pool
-    pub filled-past : (w : ℕ) → k < 1024 * n → w ≡ word u (1608 * (k / 1024) + 1025) → w ≤ k % 1024 → Filled s n (1024 * (k / 1024) + 1024) t u
-    filled-past w l e g =
-        record { front = h .front; back = h .back; long = h .long; at = λ j b. go j b (side j k); clear = λ j a b. h .clear j (omega arith) b }
+    none-there : (c i : ℕ) → absent ≡ entry (poolOf s (blockAt t c)) i → said s n t (before members) c i ≡ said s n t (after members) c i
+    none-there c i e = subst (λ (y : Constant). before members P₄ (poolOf s (blockAt t c)) y ≡ after members P₄ (poolOf s (blockAt t c)) y) e (go members)
       where
-        same-word : word u (1608 * (k / 1024) + 1025) ≡ word t (1608 * (k / 1024) + 1025)
-        same-word = word-below s n t u m (h .front) (1608 * (k / 1024) + 1025) (omega arith)
+        go : (b : Bool) → before b P₄ (poolOf s (blockAt t c)) absent ≡ after b P₄ (poolOf s (blockAt t c)) absent
+        go true = refl
+        go false = refl
 
-        go : (j : ℕ) → j < 1024 * (k / 1024) + 1024 → (j < k) ⊎ (k ≤ j) → Named s (programOf (filesIn s n t)) (resolve (programOf (filesIn s n t)) (poolOf s (blockAt t (j / 1024))) (j % 1024)) (word u (25760 + j))
-        go j b (inl x) = h .at j x
-        go j b (inr x) =
-            let c : k / 1024 ≡ j / 1024 = omega arith in
-            let i : k % 1024 ≤ j % 1024 = omega (arith, c) in
-            let z : w ≡ word t (1608 * (j / 1024) + 1025) = e ∙ same-word ∙ ap (λ (d : ℕ). word t (1608 * d + 1025)) c in
-            subst (Named s (programOf (filesIn s n t)) (resolve (programOf (filesIn s n t)) (poolOf s (blockAt t (j / 1024))) (j % 1024))) (sym (h .clear j x (omega arith)))
-            (past-word s (programOf (filesIn s n t)) t (j / 1024) (j % 1024) w z (omega (arith, i, g)))
+    -- number 0
+    pub filled-first : (c : ℕ) → k ≡ 1024 * c → Filled s n members (1024 * c + 1) t
+    unfolding poolOf
+    filled-first c e = filled-keep (1024 * c + 1) (omega arith) (λ d i b x y. none-there d i (entry-none s _ i (omega arith)))
 
-    -- past the pool there is nothing
-    past-none : Limited n t → (c i : ℕ) → c < n → 1024 ≤ i → nothing ≡ resolve (programOf (filesIn s n t)) (poolOf s (blockAt t c)) i
-    unfolding resolve poolOf
-    past-none lim c i l g =
-        ap (resolveEntry (programOf (filesIn s n t)) (poolIn s (take (4 * word (blockAt t c) poolWord) (blockAt t c))))
-        (entry-past s (take (4 * word (blockAt t c) poolWord) (blockAt t c)) i (omega (arith, lim .pool c l, length-take (4 * word (blockAt t c) poolWord) (blockAt t c))))
+    pub filled-past : (c i e : ℕ) → k ≡ 1024 * c + i → e ≡ word t (1608 * c + 1025) → e ≤ i → i ≤ 1024 → Filled s n members (1024 * (c + 1)) t
+    filled-past c i e z w l g = filled-keep (1024 * (c + 1)) (omega arith) (λ d j b x y.
+        let u : c ≡ d = omega arith in
+        none-there d j (past-at s t d j e (w ∙ ap (λ (a : ℕ). word t (1608 * a + 1025)) u) (omega (arith, u))))
 
-    pub filled-all : Limited n t → 1024 * n ≤ k → ResolvedAll s n u
-    unfolding words.wordOf words.resolvedAs
-    filled-all lim d = record { at = λ c i l. go c i l (side i 1024); flags = λ c i l. flag c i l (side i 1024) }
-      where
-        fs : filesIn s n u ≡ filesIn s n t
-        fs = files-same s n t u m (h .front)
+    module _ (c i w : ℕ) (z : k ≡ 1024 * c + i) (l : c < n) (g : i < 1024) (q : Fills s P₄ (poolOf s (blockAt t c)) members (entry (poolOf s (blockAt t c)) i) w) where
+      -- this entry and no other
+      at-entry : (B : ℕ → ℕ → Type 0) → B c i → (d j : ℕ) → j < 1024 → k ≤ 1024 * d + j → 1024 * d + j < 1024 * c + (i + 1) → B d j
+      at-entry B b d j y u o =
+          let f : c ≡ d = omega arith in
+          let p : i ≡ j = omega (arith, f) in
+          subst (λ (a : ℕ). B a j) f (subst (B c) p b)
 
-        pool : (c : ℕ) → c < n → class (programOf (filesIn s n t)) (firstClass + c) .pool ≡ poolOf s (blockAt t c)
-        pool c l = pool-at s n t m c l
+      pub filled-same : w ≡ 0 → Filled s n members (1024 * c + (i + 1)) t
+      filled-same e = filled-keep (1024 * c + (i + 1)) (omega arith) (at-entry (λ d j. said s n t (before members) d j ≡ said s n t (after members) d j) (q .none e))
 
-        one : (c i : ℕ) → c < n → i < 1024 → Named s (programOf (filesIn s n t)) (resolve (programOf (filesIn s n t)) (poolOf s (blockAt t c)) i) (word u (words.resolvedWord c i))
-        one c i l g =
-            let a : (1024 * c + i) / 1024 ≡ c = omega arith in
-            let b : (1024 * c + i) % 1024 ≡ i = omega arith in
-            let x : 25760 + (1024 * c + i) ≡ 25760 + 1024 * c + i = omega arith in
-            subst (λ (z : ℕ). Named s (programOf (filesIn s n t)) (resolve (programOf (filesIn s n t)) (poolOf s (blockAt t c)) i) (word u z)) x
-            (subst (λ (z : ℕ). Named s (programOf (filesIn s n t)) (resolve (programOf (filesIn s n t)) (poolOf s (blockAt t c)) z) (word u (25760 + (1024 * c + i)))) b
-            (subst (λ (z : ℕ). Named s (programOf (filesIn s n t)) (resolve (programOf (filesIn s n t)) (poolOf s (blockAt t z)) ((1024 * c + i) % 1024)) (word u (25760 + (1024 * c + i)))) a (h .at (1024 * c + i) (omega arith))))
+      pub filled-put : (v : List ℕ) → (w ≡ 0 → ⊥) → w < 2 ^ 32 → 168576 ≤ length t → v ≡ putWord t (words.resolvedWord c i) w → Filled s n members (1024 * c + (i + 1)) v
+      filled-put v x b r e = record { done = λ d j a y u. done d j a y (side (1024 * d + j) k) u; left = λ d j a y u. moved d j a (before members) _ (kept d j (λ p. omega arith)) (h .left d j a y (omega arith)) }
+        where
+          front : take 103040 v ≡ take 103040 t
+          front = around-put t v (words.resolvedWord c i) w (omega arith) (omega arith) e .front
 
-        back : (c i : ℕ) → c < n → (x : Resolved) → x ≡ resolve (programOf (filesIn s n t)) (poolOf s (blockAt t c)) i → x ≡ resolve (programOf (filesIn s n u)) (class (programOf (filesIn s n u)) (firstClass + c) .pool) i
-        back c i l x e =
-            e ∙ ap (λ (y : List Constant). resolve (programOf (filesIn s n t)) y i) (sym (pool c l)) ∙ ap (λ (z : List ClassFile). resolve (programOf z) (class (programOf z) (firstClass + c) .pool) i) (sym fs)
+          kept : (d j : ℕ) → (words.resolvedWord d j ≡ words.resolvedWord c i → ⊥) → word v (words.resolvedWord d j) ≡ word t (words.resolvedWord d j)
+          kept d j y = ap (λ (p : List ℕ). word p (words.resolvedWord d j)) e ∙ word-other t (words.resolvedWord c i) w (words.resolvedWord d j) y
 
-        go : (c i : ℕ) → c < n → (i < 1024) ⊎ (1024 ≤ i) → words.resolvedIn s u c i ≡ resolve (programOf (filesIn s n u)) (class (programOf (filesIn s n u)) (firstClass + c) .pool) i
-        go c i l (inl g) =
-            let y : c < 16 = omega arith in
-            rw (lt-ltb c 16 y, lt-ltb i 1024 g) (back c i l _ (one c i l g .is))
-        go c i l (inr g) =
-            let y : c < 16 = omega arith in
-            rw (lt-ltb c 16 y, le-ltb i 1024 g) (back c i l nothing (past-none lim c i l g))
+          moved : (d j : ℕ) → d < n → (f : Program → List Constant → Constant → Resolved) (y : ℕ) → word v (words.resolvedWord d j) ≡ y → Tells s n t f d j y → Tells s n v f d j (word v (words.resolvedWord d j))
+          moved d j a f y u p =
+              subst (Tells s n v f d j) (sym u)
+              (subst (λ (o : List ℕ). Named s (programOf (filesIn s n v)) (f (programOf (filesIn s n v)) (poolOf s o) (entry (poolOf s o) j)) y) (sym (block-same s n t v m front d (omega arith)))
+              (subst (λ (o : List ClassFile). Named s (programOf o) (f (programOf o) (poolOf s (blockAt t d)) (entry (poolOf s (blockAt t d)) j)) y) (sym (files-same s n t v m front)) p))
 
-        flag : (c i : ℕ) → c < n → (i < 1024) ⊎ (1024 ≤ i) → words.Flagged (programOf (filesIn s n u)) (words.wordOf u c i)
-        flag c i l (inl g) =
-            let y : c < 16 = omega arith in
-            rw (lt-ltb c 16 y, lt-ltb i 1024 g) (subst (λ (z : List ClassFile). words.Flagged (programOf z) (word u (words.resolvedWord c i))) (sym fs) (one c i l g .flags))
-        flag c i l (inr g) =
-            let y : c < 16 = omega arith in
-            rw (lt-ltb c 16 y, le-ltb i 1024 g) (unflagged (programOf (filesIn s n u)) 0 (λ z. omega arith))
+          done : (d j : ℕ) → d < n → j < 1024 → (1024 * d + j < k) ⊎ (k ≤ 1024 * d + j) → 1024 * d + j < 1024 * c + (i + 1) → Tells s n v (after members) d j (word v (words.resolvedWord d j))
+          done d j a y (inl o) u = moved d j a (after members) _ (kept d j (λ p. omega arith)) (h .done d j a y o)
+          done d j a y (inr o) u =
+              at-entry (λ d′ j′. Tells s n v (after members) d′ j′ (word v (words.resolvedWord d′ j′)))
+              (moved c i l (after members) w (ap (λ (p : List ℕ). word p (words.resolvedWord c i)) e ∙ word-same t (words.resolvedWord c i) w (omega arith) b) (q .some x)) d j y o u
 
--- ---- an Integer is kept as where its tag stands
-module _ (s t : List ℕ) (c i : ℕ) (e : Entry) (v : ℕ) (p : constantOf s e ≡ entry (poolOf s (blockAt t c)) i) (k : e ≡ Integer v) (h : i < 1024) (a : c < 16) (l : 102912 ≤ length t) (q : ℕ) (y : q ≡ word (blockAt t c) i) where
-  stands : (v ≡ u4At s (word (blockAt t c) i + 1)) × (word (blockAt t c) i < length s)
-  stands = integer-at s (blockAt t c) i v h (length-part (6432 * c) 6432 t (omega arith)) (sym (entry-is s e (Integer v) (entry (poolOf s (blockAt t c)) i) p k))
+  -- by the table's words, which are 0 past the table
+  told : Limited n t → (f : Program → List Constant → Constant → Resolved) (c i : ℕ) → c < n → nothing ≡ f P₄ (poolOf s (blockAt t c)) absent
+      → (i < 1024 → Tells s n t f c i (word t (words.resolvedWord c i))) → Tells s n t f c i (words.wordOf t c i)
+  unfolding words.wordOf
+  told lim f c i l e h = let y : c < 16 = omega arith in rw (lt-ltb c 16 y) (go (side i 1024))
+    where
+      go : (i < 1024) ⊎ (1024 ≤ i) → Tells s n t f c i (cond (ltb i 1024) (word t (words.resolvedWord c i)) 0)
+      go (inl x) = rw (lt-ltb i 1024 x) (h x)
+      go (inr x) = rw (le-ltb i 1024 x) (named-none s P₄ _ (e ∙ ap (f P₄ (poolOf s (blockAt t c))) (past-at s t c i _ refl (omega (arith, count-most n t lim c _ l refl)))))
 
-  pub tag-inside : q < length s
-  tag-inside = omega (arith, y, stands .1)
+  -- in the second pass every word tells its class
+  pub filled-classed : Limited n t → (k : ℕ) → Filled s n true k t → Classed s n t
+  filled-classed lim k h = record { at = λ c i l f. go c i l f (side (1024 * c + i) k) }
+    where
+      go : (c i : ℕ) → c < n → (f : ℕ → Resolved) → (1024 * c + i < k) ⊎ (k ≤ 1024 * c + i)
+          → withClass (words.resolvedIn s t c i) f ≡ withClass (classEntry P₄ (poolOf s (blockAt t c)) (entry (poolOf s (blockAt t c)) i)) f
+      go c i l f (inl x) = ap (λ (q : Resolved). withClass q f) (told lim resolveEntry c i l refl (λ g. h .done c i l g x) .is) ∙ by-class f P₄ (poolOf s (blockAt t c)) (entry (poolOf s (blockAt t c)) i)
+      go c i l f (inr x) = ap (λ (q : Resolved). withClass q f) (told lim ownEntry c i l refl (λ g. h .left c i l g x) .is) ∙ by-own f P₄ (poolOf s (blockAt t c)) (entry (poolOf s (blockAt t c)) i)
 
-  pub number-as : (P : Program) → Named s P (resolve P (poolOf s (blockAt t c)) i) (1 + 8 * q)
-  number-as P =
-      resolve-as s e (Integer v) (poolOf s (blockAt t c)) i p k P (number v) (1 + 8 * q) (named-number s P q v (stands .0 ∙ ap (λ (j : ℕ). u4At s (j + 1)) (sym y))) refl
+  pub filled-all : Limited n t → Filled s n true (1024 * n) t → ResolvedAll s n t
+  unfolding resolve
+  filled-all lim h = record {
+    at = λ c i l. all c i l .is ∙ ap (λ (y : List Constant). resolveEntry P₄ y (entry y i)) (sym (pool-at s n t m c l));
+    flags = λ c i l. all c i l .flags;
+  }
+    where
+      all : (c i : ℕ) → c < n → Tells s n t resolveEntry c i (words.wordOf t c i)
+      all c i l = told lim resolveEntry c i l refl (λ g. h .done c i l g (omega arith))

@@ -35,6 +35,16 @@ pub lines-front : (s t u : List ℕ) (x : Site) → front u ≡ front t → line
 unfolding linesAt
 lines-front s t u x e = ap (λ (f : List ℕ). lines (programAt s f x) (methodAt s f x)) e
 
+-- where all is marked, the scratch is ready
+pub ready-after : (s t u : List ℕ) (x : Site) → Here s t x → x .codes ≡ 1 → 262144 ≤ length t → front u ≡ front t → length u ≡ length t
+    → Marked (linesAt s t x) (x .end - x .start) u → Ready s u x
+ready-after s t u x h e g f l m = record {
+  here = here-front s t u x f h;
+  one = e;
+  long = rw l g;
+  marks = subst (λ (ls : List Line). Marked ls (x .end - x .start) u) (sym (lines-front s t u x f)) m;
+}
+
 -- the code's length
 pub code-length : (s : List ℕ) (x : Site) → Bounded s x → length (siteCode s x) ≡ x .end - x .start
 unfolding part
@@ -66,26 +76,33 @@ module _ (s t : List ℕ) (x : Site) (h : Here s t x) (one : x .codes ≡ 1) whe
   unfolding siteBody
   locals-here = ap (λ (b : Body). b .maxLocals) body-here
 
-  long-here : length (codeOf M) ≡ length (siteCode s x)
+  pub long-here : length (codeOf M) ≡ length (siteCode s x)
   long-here = ap length code-here
+
+  pub none-marked : Cleared (x .end - x .start) t t → Marking P M t 0
+  none-marked z = marking-start P M t (λ j l. z .zeros j (omega (arith, code-length s x (h .bounded), long-here)))
+
+  pub all-marked : (u : List ℕ) (o : ℕ) → length (siteCode s x) ≤ o → Marking P M u o → Marked (linesAt s t x) (x .end - x .start) u
+  unfolding linesAt
+  all-marked u o l m =
+      subst (λ (k : ℕ). Marked (lines P M) k u) (long-here ∙ code-length s x (h .bounded)) (marking-end P M u o (omega (arith, long-here)) m)
 
   pub scan-start : Cleared (x .end - x .start) t t → Scanning s t x t 0
   unfolding linesAt
   scan-start z = record {
     claims = ap (λ (ls : List Line). verdict (formClaims M ls)) (sym (rest-all P M));
-    marking = marking-start P M t (λ j l. z .zeros j (omega (arith, code-length s x (h .bounded), long-here)));
+    marking = none-marked z;
     front = refl;
     long = refl;
   }
 
   pub scan-end : (u : List ℕ) (o : ℕ) → length (siteCode s x) ≤ o → Scanning s t x u o → Scanned s t x (record { number = 0; place = 0 }) u
-  unfolding linesAt formClaims
+  unfolding formClaims
   scan-end u o l z =
       let g : length (codeOf M) ≤ o = omega (arith, long-here) in
-      let e : length (codeOf M) ≡ x .end - x .start = long-here ∙ code-length s x (h .bounded) in
       record {
         is = sym (verdict-none) ∙ ap (λ (ls : List Line). verdict (formClaims M ls)) (sym (rest-end P M o g)) ∙ z .claims;
-        marks = λ n. subst (λ (k : ℕ). Marked (lines P M) k u) e (marking-end P M u o g (z .marking));
+        marks = λ n. all-marked u o l (z .marking);
         front = z .front;
         long = z .long;
       }

@@ -1,6 +1,6 @@
 -- Laws of phase C of a method whole: its parts in order. Assumes nothing.
-use Prim.Native.Nat.{ℕ, zero, suc, _+_, _-_, _*_, _%_, _<_, _≤_}
-use mathlib.Core.Path.{_≡_, refl, sym, ap, subst, _∙_}
+use Prim.Native.Nat.{ℕ, zero, suc, _+_, _*_, _%_, _<_, _≤_}
+use mathlib.Core.Path.{_≡_, refl, sym, ap, _∙_}
 use mathlib.Core.Bool.{Bool, true, false, cond}
 use mathlib.Core.List.{List, [], _∷_, _++_}
 use native.Mathlib.Omega.{arith}
@@ -23,8 +23,8 @@ use Rattle.rules.specs.Opcodes.{body, onlyBody}
 use Rattle.rules.specs.Lines.{Line, lines}
 use Rattle.rules.specs.Shape.{isOnce, notTwice, bodyClaims, formClaims, referenceClaims, tableClaims, shapeClaims}
 use Rattle.rules.specs.Sites.{front, siteBody, siteFrames, Sited, programAt, methodAt, Here}
-use Rattle.shaping.specs.Marks.{ruledAs, linesAt, Marked, Scanned, Ready}
-use Rattle.shaping.specs.ScanLaws.{here-front, lines-front, body-here}
+use Rattle.shaping.specs.Marks.{ruledAs, linesAt, Scanned, Ready}
+use Rattle.shaping.specs.ScanLaws.{ready-after, body-here}
 use Rattle.shaping.specs.Shaping.{tableOf, Begun, endClaims, Shaped}
 use Rattle.rules.specs.declared.site.Site.{Site}
 use Rattle.rules.specs.declared.site.Ruled.{Ruled}
@@ -173,12 +173,7 @@ module _ (s t : List ℕ) (x : Site) (h : Here s t x) where
       pub begun-marks : (u : List ℕ) (r : Ruled) → n ≤ x .locals → 262144 ≤ length t → Scanned s t x r u → Begun s t x r u
       begun-marks u r k g z = record {
         is = z .is ∙ sym (pass-then (verdict (bodyClaims M)) (verdict (formClaims M all)) (body-all M one-code few-tables (omega (arith, locals-is, slots-here n en))));
-        ready = λ e. record {
-          here = here-front s t u x (z .front) h;
-          one = c;
-          long = rw (z .long) g;
-          marks = subst (λ (ls : List Line). Marked ls (x .end - x .start) u) (sym (lines-front s t u x (z .front))) (z .marks e);
-        };
+        ready = λ e. ready-after s t u x h c g (z .front) (z .long) (z .marks e);
         front = z .front;
         long = z .long;
       }

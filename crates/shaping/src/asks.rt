@@ -1,34 +1,35 @@
 // What phase C asks of an instruction, by its opcode.
 ghost use mathlib.Core.Path.{_≡_};
 ghost use Prim.Native.Nat.{_<_};
-ghost use Rattle.shaping.specs.Asks.{packedAt, kindOf, ownLocal, formBy};
+ghost use Rattle.shaping.specs.Asks.{packedAt, kindOf, needsOf, entryOf, sortOf};
 
 // Of the sixteen opcodes from 16 k on, four bits each.
 fn packed(k: usize) -> u64
     ensures { λ r. ⌜ r ≡ packedAt k ⌝ }
 {
     match k {
-        0 => 0x5555555000000000,
-        1 => 0x5511112555255400,
-        2 => 0x5011115555555555,
-        3 => 0x5111125552555055,
-        4 => 0x0111155555555555,
-        5 => 0x0555500505550555,
-        6 => 0x5550555055505550,
-        7 => 0x5050505055505550,
-        8 => 0x5555555555525050,
-        9 => 0x3333333555555555,
-        10 => 0x5550555533333333,
-        11 => 0x0045555444445500,
-        12 => 0x5555555533555544,
-        13 => 0x5555555555555555,
-        14 => 0x5555555555555555,
-        15 => 0x5555555555555555,
+        0 => 0x7777777000000000,
+        1 => 0x7743215777577900,
+        2 => 0x7043217777777777,
+        3 => 0x7432157775777077,
+        4 => 0x0432177777777777,
+        5 => 0x0777700707770777,
+        6 => 0x7770777077707770,
+        7 => 0x7070707077707770,
+        8 => 0x7777777777757070,
+        9 => 0x6666666777777777,
+        10 => 0x7770777766666666,
+        11 => 0x0077777decbb7700,
+        12 => 0x77777777667777aa,
+        13 => 0x7777777777777777,
+        14 => 0x7777777777777777,
+        15 => 0x7777777777777777,
         _ => 0,
     }
 }
 
-// 0 nothing, 1 the local of its number, 2 the local of its operand, 3 a target, 4 a name, 5 its own tests.
+// 0 nothing, 1 to 4 so many locals, 5 the local of its operand, 6 a target, 7 its own tests; a name: 9 of a
+// number, 10 a type, 11 a field, 12 a method of an object, 13 a static one, 14 a constructor.
 pub fn kind(op: usize) -> u64
     requires { ⌜ op < 256 ⌝ }
     ensures { λ r. ⌜ r ≡ kindOf op ⌝ }
@@ -38,27 +39,46 @@ pub fn kind(op: usize) -> u64
     (w >> k) % 16
 }
 
-// The local of a load or store that has its number in the opcode.
-fn own(op: usize) -> usize
-    requires { ⌜ op < 256 ⌝ }
-    ensures { λ r. ⌜ r ≡ ownLocal op ⌝ }
+// How many locals an instruction of kind k with first operand byte a needs.
+pub fn needs(k: u64, a: usize) -> usize
+    requires { ⌜ a < 256 ⌝ }
+    ensures { λ r. ⌜ r ≡ needsOf k a ⌝ }
 {
-    if op < 0x3b {
-        return (op + 2) % 4;
+    if k < 5 {
+        return k as usize;
     }
-    (op + 1) % 4
+    if k == 5 {
+        return a + 1;
+    }
+    0
 }
 
-// Whether an instruction of kind k with first operand byte a is well formed where there are n locals.
-pub fn form_by(k: u64, op: usize, a: usize, n: usize) -> bool
-    requires { ⌜ op < 256 ⌝ }
-    ensures { λ r. ⌜ r ≡ formBy k op a n ⌝ }
+// The pool entry that an instruction of kind k with operand bytes a and b names; a number's has one byte.
+pub fn entry(k: u64, a: usize, b: usize) -> usize
+    requires { ⌜ (a < 256) × (b < 256) ⌝ }
+    ensures { λ r. ⌜ r ≡ entryOf k a b ⌝ }
 {
-    if k == 1 {
-        return own(op) < n;
+    if k == 9 {
+        return a;
     }
-    if k == 2 {
-        return a < n;
+    a * 256 + b
+}
+
+// The kind that names what a resolved word stands for, 8 for nothing.
+pub fn sort(w: u32) -> u64
+    ensures { λ r. ⌜ r ≡ sortOf w ⌝ }
+{
+    if w % 8 < 4 {
+        return (8 + w % 8) as u64;
     }
-    true
+    if w % 8 != 4 {
+        return 8;
+    }
+    if w / 1048576 % 2 == 1 {
+        return 14;
+    }
+    if w / 524288 % 2 == 1 {
+        return 13;
+    }
+    12
 }

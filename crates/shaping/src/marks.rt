@@ -2,13 +2,14 @@
 ghost use mathlib.Core.Path.{_≡_};
 ghost use mathlib.Core.Bool.{cond};
 ghost use Prim.Native.Nat.{_-_, _<_, _≤_};
+ghost use lib.Dec.{eqb};
 ghost use lib.ListN.{length};
 ghost use Rattle.rules.specs.Instruction.{formOk, isNew};
 ghost use Rattle.rules.specs.InstructionWords.{localOf, instrOf};
 ghost use Rattle.rules.specs.Lines.{isStart, isNewAt};
 ghost use Rattle.rules.specs.Sites.{Here};
 ghost use Rattle.shaping.specs.Asks.{Says, markBy};
-ghost use Rattle.shaping.specs.Marks.{linesAt, Ready, Cleared, Scanned};
+ghost use Rattle.shaping.specs.Marks.{linesAt, Ready, Cleared, Scanned, PassesShape, Restored};
 use crate::asks;
 use rules::decode;
 use rules::instruction::Instr;
@@ -88,10 +89,10 @@ fn mark_at(s: &[u8], t: &[u8], c: usize, code: &[u8], o: usize, n: usize) -> u8
 {
     let op = kit::byte(code, o);
     let k = asks::kind(op);
-    if 4 < k {
+    if k == 7 {
         return decoded_mark(s, t, c, code, o, n);
     }
-    if asks::form_by(k, op, kit::byte(code, o + 1), n) {
+    if asks::needs(k, kit::byte(code, o + 1)) <= n {
         return 1;
     }
     0
@@ -143,6 +144,40 @@ pub fn mark(s: &[u8], t: &mut [u8], x: Site) -> Ruled
 {
     clear_marks(t, x.end - x.start);
     scan(s, t, x)
+}
+
+// The mark of an instruction by its opcode, where phase C has passed: then what a `new` names is resolved.
+fn opcode_mark(op: usize) -> u8
+    ensures { λ r. ⌜ r ≡ cond (eqb op 0xbb) 2 1 ⌝ }
+{
+    if op == 0xbb {
+        return 2;
+    }
+    1
+}
+
+// The instructions in order, by their opcodes; the marks are clear before.
+fn fill(s: &[u8], t: &mut [u8], x: Site)
+    requires { ⌜ Here (now s) (now t) x × (x .codes ≡ 1) × (262144 ≤ length (now t)) × Cleared (x .end - x .start) (now t) (now t) × PassesShape (now s) (now t) x ⌝ }
+    ensures { λ _. ⌜ Restored (now (s .entry)) (now (t .entry)) x (now (t .exit)) ⌝ }
+{
+    let from = x.start;
+    let to = x.end;
+    let code = &s[from..to];
+    let mut o = 0;
+    while o < x.end - x.start {
+        t[256640 + o] = opcode_mark(kit::byte(code, o));
+        o += opcodes::size_at(code, o);
+    }
+}
+
+// The marks of a method that phase C has passed: no form is in doubt.
+pub fn restore(s: &[u8], t: &mut [u8], x: Site)
+    requires { ⌜ Here (now s) (now t) x × (x .codes ≡ 1) × (262144 ≤ length (now t)) × PassesShape (now s) (now t) x ⌝ }
+    ensures { λ _. ⌜ Restored (now (s .entry)) (now (t .entry)) x (now (t .exit)) ⌝ }
+{
+    clear_marks(t, x.end - x.start);
+    fill(s, t, x);
 }
 
 // Whether an instruction starts at o; whether a `new` does.

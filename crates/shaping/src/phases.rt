@@ -86,6 +86,6 @@ pub fn typable(s: &[u8], t: &mut [u8], n: usize, c: usize, m: usize) -> Site
     ensures { λ x. ⌜ Typable (now (s .entry)) n c m x (now (t .entry)) (now (t .exit)) ⌝ }
 {
     let x = locate::site(s, &t[0..187008], n, c, m);
-    marks::mark(s, t, x);
+    marks::restore(s, t, x);
     x
 }

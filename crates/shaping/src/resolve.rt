@@ -5,13 +5,16 @@ use reader::lookup;
 use reader::lookup::Hit;
 use reader::overriding;
 use reader::types as codes;
+use rules::decode;
+use texts::items;
 use texts::items::Got;
 use texts::names;
 ghost use mathlib.Core.Path.{_≡_};
 ghost use mathlib.Core.Bool.{true, false};
-ghost use Prim.Native.Nat.{ℕ, _+_, _-_, _*_, _/_, _%_, _<_, _≤_};
-ghost use mathlib.Core.List.{List};
+ghost use Prim.Native.Nat.{_+_, _*_, _^_, _<_, _≤_};
 ghost use lib.ListN.{length, take, drop};
+ghost use Rattle.kit.specs.Words.{word};
+ghost use Rattle.texts.specs.Reading.{u2At};
 ghost use Rattle.classfiles.specs.Pool.{classAt, entry};
 ghost use Rattle.reader.specs.Program.{signature, method, programOf, isConstructor};
 ghost use Rattle.classfiles.specs.Blocks.{poolOf};
@@ -21,14 +24,16 @@ ghost use Rattle.reader.specs.Prints.{Printed};
 ghost use Rattle.reader.specs.Lookup.{hitOf};
 ghost use Rattle.reader.specs.Access.{Limited};
 ghost use Rattle.reader.specs.Whole.{Tables};
-ghost use Rattle.rules.specs.Resolve.{Resolved, withClass, classEntry, withSignature, methodFound, fieldIn, methodIn, resolve};
+ghost use Rattle.rules.specs.Resolve.{classEntry, withSignature, methodFound, fieldIn, methodIn};
+ghost use Rattle.rules.specs.ResolvedWords.{wordOf};
+ghost use Rattle.rules.specs.Handlers.{classIn};
 ghost use Rattle.shaping.specs.Located.{Prepared};
-ghost use Rattle.shaping.specs.Resolving.{typeAs, numbered, memberIn, typeWord, fieldWord, methodWord, flagOf, Named, Blanked, Filled, Entered};
+ghost use Rattle.shaping.specs.Resolving.{typeAs, memberIn, referred, typeWord, fieldWord, methodWord, flagOf, Named, Classed, Fills, Around, Blanked, Filled};
 
 // The type that the Class of name i in class c's pool names: its code, where it is known.
 fn class_code(s: &[u8], t: &[u8], n: usize, c: usize, i: usize) -> Got
     requires { ⌜ (n ≤ 16) × (c < n) × (parentsEnd ≤ length (now t)) ⌝ }
-    ensures { λ r. ⌜ (typeAs r ≡ classEntry (programOf (filesIn (now (s .entry)) n (now (t .entry)))) (poolOf (now (s .entry)) (blockAt (now (t .entry)) c)) (classAt i)) × (r .val < 256) × (r .val ≡ 248 → ⊥) ⌝ }
+    ensures { λ r. ⌜ (typeAs r ≡ classEntry (programOf (filesIn (now (s .entry)) n (now (t .entry)))) (poolOf (now (s .entry)) (blockAt (now (t .entry)) c)) (classAt i)) × (r .val < 256) ⌝ }
 {
     let p = access::text_in(s, t, c, i);
     let f = p.start;
@@ -55,37 +60,6 @@ fn class_code(s: &[u8], t: &[u8], n: usize, c: usize, i: usize) -> Got
         ok: false,
         val: 0,
         at: 0,
-    }
-}
-
-// The class that a code stands for, 31 where it is none or an array.
-fn class_number(d: Got) -> usize
-    requires { ⌜ (d .val < 256) × (d .val ≡ 248 → ⊥) ⌝ }
-    ensures { λ r. ⌜ ((k : ℕ → Resolved) → numbered r k ≡ withClass (typeAs d) k) × (r < 32) ⌝ }
-{
-    if !d.ok {
-        return 31;
-    }
-    if d.val % 8 == 0 {
-        return d.val / 8;
-    }
-    31
-}
-
-// The class that entry i of class c's pool names, 31 where there is none.
-fn class_at(s: &[u8], t: &[u8], n: usize, c: usize, i: usize) -> usize
-    requires { ⌜ (n ≤ 16) × (c < n) × (parentsEnd ≤ length (now t)) ⌝ }
-    ensures { λ r. ⌜ ((k : ℕ → Resolved) → numbered r k ≡ withClass (classEntry (programOf (filesIn (now (s .entry)) n (now (t .entry)))) (poolOf (now (s .entry)) (blockAt (now (t .entry)) c)) (entry (poolOf (now (s .entry)) (blockAt (now (t .entry)) c)) i)) k) × (r < 32) ⌝ }
-{
-    let e = access::entry_in(s, t, c, i);
-    match e {
-        Entry::Absent => 31,
-        Entry::Utf8(_, _) => 31,
-        Entry::Integer(_) => 31,
-        Entry::Class(name) => class_number(class_code(s, t, n, c, name)),
-        Entry::Field(_, _) => 31,
-        Entry::Method(_, _) => 31,
-        Entry::NameAndType(_, _) => 31,
     }
 }
 
@@ -185,14 +159,41 @@ fn member_word(s: &[u8], t: &[u8], n: usize, c: usize, named: usize, j: usize, m
     }
 }
 
-// A field or method of the class that entry i names.
-fn reference(s: &[u8], t: &[u8], n: usize, c: usize, i: usize, j: usize, method: bool) -> u32
-    requires { ⌜ (n ≤ 16) × (c < n) × (parentsEnd ≤ length (now t)) × Parents (now s) n (now t) × Limited n (now t) × Printed (now s) n (now t) ⌝ }
-    ensures { λ r. ⌜ Named (now (s .entry)) (programOf (filesIn (now (s .entry)) n (now (t .entry)))) (withClass (classEntry (programOf (filesIn (now (s .entry)) n (now (t .entry)))) (poolOf (now (s .entry)) (blockAt (now (t .entry)) c)) (entry (poolOf (now (s .entry)) (blockAt (now (t .entry)) c)) i)) λ d. withSignature (poolOf (now (s .entry)) (blockAt (now (t .entry)) c)) (entry (poolOf (now (s .entry)) (blockAt (now (t .entry)) c)) j) (memberIn (programOf (filesIn (now (s .entry)) n (now (t .entry)))) method d)) r ⌝ }
+// The class that entry j of class c's pool names, by its word; 31 where there is none.
+fn class_named(t: &[u8], c: usize, j: usize) -> usize
+    ensures { λ r. ⌜ (r ≡ classIn 31 (wordOf (now (t .entry)) c j)) × (r < 32) ⌝ }
 {
-    let named = class_at(s, t, n, c, i);
+    let w = decode::named_word(t, c, j);
+    if w % 64 == 2 {
+        return (w / 64 % 32) as usize;
+    }
+    31
+}
+
+// A field or method whose tag stands at q: a class, then a name and a descriptor.
+fn reference(s: &[u8], t: &[u8], n: usize, c: usize, q: usize, method: bool) -> u32
+    requires { ⌜ (n ≤ 16) × (c < n) × (q < 2 ^ 32) × (parentsEnd ≤ length (now t)) × Parents (now s) n (now t) × Limited n (now t) × Printed (now s) n (now t) × Classed (now s) n (now t) ⌝ }
+    ensures { λ r. ⌜ Named (now (s .entry)) (programOf (filesIn (now (s .entry)) n (now (t .entry)))) (referred (programOf (filesIn (now (s .entry)) n (now (t .entry)))) (poolOf (now (s .entry)) (blockAt (now (t .entry)) c)) method (u2At (now (s .entry)) (q + 1)) (u2At (now (s .entry)) (q + 3))) r ⌝ }
+{
+    let named = class_named(t, c, items::u2_at(s, q + 1));
     if named < 31 {
-        return member_word(s, t, n, c, named, j, method);
+        return member_word(s, t, n, c, named, items::u2_at(s, q + 3), method);
+    }
+    0
+}
+
+// The second pass at entry i of class c's pool: members.
+fn referred_word(s: &[u8], t: &[u8], n: usize, c: usize, i: usize) -> u32
+    requires { ⌜ (n ≤ 16) × (c < n) × (0 < i) × (i < 1024) × (i < word (now t) (1608 * c + 1025)) × (parentsEnd ≤ length (now t)) × Parents (now s) n (now t) × Limited n (now t) × Printed (now s) n (now t) × Classed (now s) n (now t) ⌝ }
+    ensures { λ r. ⌜ Fills (now (s .entry)) (programOf (filesIn (now (s .entry)) n (now (t .entry)))) (poolOf (now (s .entry)) (blockAt (now (t .entry)) c)) true (entry (poolOf (now (s .entry)) (blockAt (now (t .entry)) c)) i) r ⌝ }
+{
+    let q = access::tag_in(t, c, i);
+    let tag = kit::byte(s, q);
+    if tag == 9 {
+        return reference(s, t, n, c, q, false);
+    }
+    if tag == 10 {
+        return reference(s, t, n, c, q, true);
     }
     0
 }
@@ -207,65 +208,81 @@ fn type_bits(d: Got) -> u32
     0
 }
 
-// What entry i of class c's pool names.
-fn entry_word(s: &[u8], t: &[u8], n: usize, c: usize, i: usize) -> u32
-    requires { ⌜ (length (now s) ≤ 65536) × (n ≤ 16) × (c < n) × (i < 1024) × (parentsEnd ≤ length (now t)) × Parents (now s) n (now t) × Limited n (now t) × Printed (now s) n (now t) ⌝ }
-    ensures { λ r. ⌜ Named (now (s .entry)) (programOf (filesIn (now (s .entry)) n (now (t .entry)))) (resolve (programOf (filesIn (now (s .entry)) n (now (t .entry)))) (poolOf (now (s .entry)) (blockAt (now (t .entry)) c)) i) r ⌝ }
+// The first pass at entry i of class c's pool: numbers and types.
+fn own_word(s: &[u8], t: &[u8], n: usize, c: usize, i: usize) -> u32
+    requires { ⌜ (length (now s) ≤ 65536) × (n ≤ 16) × (c < n) × (0 < i) × (i < 1024) × (i < word (now t) (1608 * c + 1025)) × (parentsEnd ≤ length (now t)) ⌝ }
+    ensures { λ r. ⌜ Fills (now (s .entry)) (programOf (filesIn (now (s .entry)) n (now (t .entry)))) (poolOf (now (s .entry)) (blockAt (now (t .entry)) c)) false (entry (poolOf (now (s .entry)) (blockAt (now (t .entry)) c)) i) r ⌝ }
 {
-    let e = access::entry_in(s, t, c, i);
-    match e {
-        Entry::Absent => 0,
-        Entry::Utf8(_, _) => 0,
-        Entry::Integer(_) => {
-            let q = access::tag_in(t, c, i);
-            (1 + 8 * q) as u32
-        }
-        Entry::Class(name) => type_bits(class_code(s, t, n, c, name)),
-        Entry::Field(class, member) => reference(s, t, n, c, class, member, false),
-        Entry::Method(class, member) => reference(s, t, n, c, class, member, true),
-        Entry::NameAndType(_, _) => 0,
+    let q = access::tag_in(t, c, i);
+    let tag = kit::byte(s, q);
+    if tag == 3 {
+        return (1 + 8 * q) as u32;
+    }
+    if tag == 7 {
+        return type_bits(class_code(s, t, n, c, items::u2_at(s, q + 1)));
+    }
+    0
+}
+
+fn entry_word(s: &[u8], t: &[u8], n: usize, c: usize, i: usize, members: bool) -> u32
+    requires { ⌜ (length (now s) ≤ 65536) × (n ≤ 16) × (c < n) × (0 < i) × (i < 1024) × (i < word (now t) (1608 * c + 1025)) × (parentsEnd ≤ length (now t)) × Parents (now s) n (now t) × Limited n (now t) × Printed (now s) n (now t) × (members ≡ true → Classed (now s) n (now t)) ⌝ }
+    ensures { λ r. ⌜ Fills (now (s .entry)) (programOf (filesIn (now (s .entry)) n (now (t .entry)))) (poolOf (now (s .entry)) (blockAt (now (t .entry)) c)) members (entry (poolOf (now (s .entry)) (blockAt (now (t .entry)) c)) i) r ⌝ }
+{
+    if members {
+        return referred_word(s, t, n, c, i);
+    }
+    own_word(s, t, n, c, i)
+}
+
+// A word that is not 0 is written.
+fn fill(s: &[u8], t: &mut [u8], n: usize, c: usize, i: usize, members: bool)
+    requires { ⌜ (length (now s) ≤ 65536) × (n ≤ 16) × (c < n) × (0 < i) × (i < 1024) × (i < word (now t) (1608 * c + 1025)) × (168576 ≤ length (now t)) × Parents (now s) n (now t) × Limited n (now t) × Printed (now s) n (now t) × Filled (now s) n members (1024 * c + i) (now t) ⌝ }
+    ensures { λ _. ⌜ Around (now (t .entry)) (now (t .exit)) × Filled (now (s .entry)) n members (1024 * c + (i + 1)) (now (t .exit)) ⌝ }
+{
+    let w = entry_word(s, t, n, c, i, members);
+    if w == 0 {
+        return;
+    }
+    kit::put_word(t, 25760 + 1024 * c + i, w);
+}
+
+// A pass over the entries of class c.
+fn class_entries(s: &[u8], t: &mut [u8], n: usize, c: usize, members: bool)
+    requires { ⌜ (length (now s) ≤ 65536) × (n ≤ 16) × (c < n) × (168576 ≤ length (now t)) × Parents (now s) n (now t) × Limited n (now t) × Printed (now s) n (now t) × Filled (now s) n members (1024 * c) (now t) ⌝ }
+    ensures { λ _. ⌜ Around (now (t .entry)) (now (t .exit)) × Filled (now (s .entry)) n members (1024 * (c + 1)) (now (t .exit)) ⌝ }
+{
+    let e = kit::word(t, 1608 * c + 1025) as usize;
+    let mut i = 1;
+    while i < e {
+        fill(s, t, n, c, i, members);
+        i += 1;
     }
 }
 
-// The word of entry k % 1024 of class k / 1024, and the entry that comes next: past the end of a pool the words stay clear.
-fn filled(s: &[u8], t: &mut [u8], n: usize, k: usize) -> usize
-    requires { ⌜ (length (now s) ≤ 65536) × (n ≤ 16) × (k < 1024 * n) × (168576 ≤ length (now t)) × Parents (now s) n (now t) × Limited n (now t) × Printed (now s) n (now t) ⌝ }
-    ensures { λ r. ⌜ (k < r) × (r ≤ 1024 * n) × ((u : List ℕ) → Filled (now (s .entry)) n k u (now (t .entry)) → Filled (now (s .entry)) n r u (now (t .exit))) ⌝ }
+fn entries(s: &[u8], t: &mut [u8], n: usize, members: bool)
+    requires { ⌜ (length (now s) ≤ 65536) × (n ≤ 16) × (168576 ≤ length (now t)) × Parents (now s) n (now t) × Limited n (now t) × Printed (now s) n (now t) × Filled (now s) n members 0 (now t) ⌝ }
+    ensures { λ _. ⌜ Around (now (t .entry)) (now (t .exit)) × Filled (now (s .entry)) n members (1024 * n) (now (t .exit)) ⌝ }
 {
-    let c = k / 1024;
-    let i = k % 1024;
-    if kit::word(t, 1608 * c + 1025) as usize <= i {
-        return 1024 * c + 1024;
-    }
-    let w = entry_word(s, t, n, c, i);
-    kit::put_word(t, 25760 + k, w);
-    k + 1
-}
-
-// The words of all entries of the n classes; they are clear before.
-fn entries(s: &[u8], t: &mut [u8], n: usize)
-    requires { ⌜ (length (now s) ≤ 65536) × (n ≤ 16) × (168576 ≤ length (now t)) × Parents (now s) n (now t) × Limited n (now t) × Printed (now s) n (now t) × Blanked n (now t) (now t) ⌝ }
-    ensures { λ _. ⌜ Entered (now (s .entry)) n (now (t .entry)) (now (t .exit)) ⌝ }
-{
-    let e = 1024 * n;
-    let mut k = 0;
-    while k < e {
-        k = filled(s, t, n, k);
+    let mut c = 0;
+    while c < n {
+        class_entries(s, t, n, c, members);
+        c += 1;
     }
 }
 
 fn clear_words(t: &mut [u8], n: usize)
     requires { ⌜ (n ≤ 16) × (168576 ≤ length (now t)) ⌝ }
-    ensures { λ _. ⌜ Blanked n (now (t .entry)) (now (t .exit)) ⌝ }
+    ensures { λ _. ⌜ Around (now (t .entry)) (now (t .exit)) × Blanked n (now (t .exit)) ⌝ }
 {
     kit::clear(&mut t[103040..103040 + 4096 * n]);
 }
 
-// After phases A and B: all that later phases ask of the scratch stands in it.
+// After phases A and B: all that later phases ask of the scratch stands in it. Members come last, when their classes have words.
 pub fn prepare(s: &[u8], t: &mut [u8], n: usize)
     requires { ⌜ (168576 ≤ length (now t)) × Tables (now s) n (now t) × Printed (now s) n (now t) ⌝ }
     ensures { λ _. ⌜ (take 103040 (now (t .exit)) ≡ take 103040 (now (t .entry))) × (drop 168576 (now (t .exit)) ≡ drop 168576 (now (t .entry))) × Prepared (now (s .entry)) n (now (t .exit)) ⌝ }
 {
     clear_words(t, n);
-    entries(s, t, n);
+    entries(s, t, n, false);
+    entries(s, t, n, true);
 }

@@ -10,7 +10,7 @@ ghost use Rattle.rules.specs.Instruction.{targets, resolved};
 ghost use Rattle.rules.specs.InstructionWords.{branchOf, instrOf};
 ghost use Rattle.rules.specs.Shape.{allStarts, referenceClaims, rangeOk, catchOk, tableClaims};
 ghost use Rattle.rules.specs.Sites.{front, programAt, methodAt, Here};
-ghost use Rattle.shaping.specs.Asks.{Says, referBy};
+ghost use Rattle.shaping.specs.Asks.{Says, referBy, nameFault};
 ghost use Rattle.shaping.specs.Marks.{ruledAs, linesAt, Ready};
 ghost use Rattle.shaping.specs.Shaping.{tableOf, Begun, endClaims, Shaped};
 ghost use Rattle.rules.specs.Handlers.{entryAt, catchIn};
@@ -106,6 +106,20 @@ fn target_at(code: &[u8], o: usize) -> u16
     })
 }
 
+// 13 where the instruction of kind k at o names what is not of that kind, or 0.
+fn name_fault(t: &[u8], c: usize, code: &[u8], o: usize, k: u64) -> u32
+    requires { ⌜ o < length (now code) ⌝ }
+    ensures { λ r. ⌜ r ≡ nameFault (now (t .entry)) c (now (code .entry)) o k ⌝ }
+{
+    let a = kit::byte(code, o + 1);
+    let b = kit::byte(code, o + 2);
+    let w = decode::named_word(t, c, asks::entry(k, a, b));
+    if asks::sort(w) == k {
+        return 0;
+    }
+    13
+}
+
 // The same as decoded_fault, by the opcode where that tells.
 fn fault_at(s: &[u8], t: &[u8], x: Site, code: &[u8], o: usize) -> u32
     requires { ⌜ Ready (now s) (now t) x × (o < length (now code)) ⌝ }
@@ -113,17 +127,20 @@ fn fault_at(s: &[u8], t: &[u8], x: Site, code: &[u8], o: usize) -> u32
 {
     let op = kit::byte(code, o);
     let k = asks::kind(op);
-    if k < 3 {
+    if k < 6 {
         return 0;
     }
-    if k == 3 {
+    if k == 6 {
         let l = target_at(code, o);
         if marks::is_start(s, t, x, l as usize) {
             return 0;
         }
         return 12;
     }
-    decoded_fault(s, t, x, code, o)
+    if k == 7 {
+        return decoded_fault(s, t, x, code, o);
+    }
+    name_fault(t, x.class, code, o, k)
 }
 
 // 12 and 13 of the instructions in order.

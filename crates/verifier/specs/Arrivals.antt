@@ -1,35 +1,32 @@
 -- What the instruction at an offset finds: the state that came, or the frame's that it met. Assumes nothing.
-use Prim.Native.Nat.{ℕ, _+_, _*_, _≤_}
+use Prim.Native.Nat.{ℕ, _+_}
 use mathlib.Core.Path.{_≡_, refl, sym, ap, subst, _∙_}
-use mathlib.Core.Bool.{Bool, true, false, cond, Bool·beq}
+use mathlib.Core.Bool.{Bool, true, false, Bool·beq}
 use mathlib.Core.List.{List, [], _∷_, _++_, append-nil}
 use mathlib.Core.Option.{Option, none, some}
 use native.Mathlib.Omega.{arith}
-use lib.Dec.{T, eqb, eqb-refl}
+use lib.Dec.{T, eqb-refl}
 use lib.ListN.{length, take}
 use Rattle.kit.specs.Bools.{true-T}
-use Rattle.kit.specs.Claims.{Claim, claim, pass, is, verdict, then, verdict-append, is-zero, pass-then, all-pass, AllT}
+use Rattle.kit.specs.Claims.{Claim, pass, is, verdict, is-zero, all-pass, AllT}
 use Rattle.reader.specs.BuiltIns.{firstClass}
 use Rattle.reader.specs.Program.{Program, Method}
 use Rattle.rules.specs.Types.{Ty, fits}
 use Rattle.rules.specs.States.{State, state, slotsFit, stateFits}
 use Rattle.rules.specs.Frames.{Frame}
 use Rattle.rules.specs.Opcodes.{instruction}
-use Rattle.rules.specs.Rule.{rule}
-use Rattle.rules.specs.Walk.{frameAt, meets, merged, instructionClaims, onward}
+use Rattle.rules.specs.Walk.{frameAt, meets, merged, instructionClaims}
 use Rattle.rules.specs.Ancestry.{lineage, fits-self}
 use Rattle.rules.specs.Slots.{held, Outside}
 use Rattle.rules.specs.FrameRows.{framesOf}
 use Rattle.rules.specs.Sites.{Sited}
 use Rattle.rules.specs.StepClaims.{frames-outside, Going}
 use Rattle.rules.specs.Loads.{current}
-use Rattle.verifier.specs.Callees.{Typed}
-use Rattle.verifier.specs.Lineup.{lineClaims, lineAfter, claims-left, after-left, line-on, front-word, front-sited, front-typed, outside-front, walking-on, met-at, Walking, Entered, LineDone}
+use Rattle.verifier.specs.Lineup.{lineClaims, lineAfter, claims-left, after-left, line-on, front-word, outside-front, walking-on, met-at, Walking, Entered}
 use Rattle.rules.specs.declared.site.Site.{Site}
 use Rattle.rules.specs.declared.slots.Held.{Held}
 use Rattle.rules.specs.declared.frames.Rows.{Rows}
 use Rattle.rules.specs.declared.types.Kin.{Kin}
-use Rattle.verifier.specs.declared.walk.Turn.{Turn}
 
 -- ---- every state fits itself
 module _ (P : Program) where
@@ -86,30 +83,14 @@ module _ (s t u : List ℕ) (x : Site) (kin : Kin) (f : Rows) (live : Bool) (h :
   pub arrived-walking : length u ≡ length t → Walking s u x kin f g
   arrived-walking e = walking-on s t x kin f h w u g go front e
 
-  module _ (v : List ℕ) (r : Turn) (d : LineDone s u v x f true g o r) where
-    module _ (P : Program) (M : Method) (dt : Sited s t P M x) (yt : Typed t P (x .classes)) (one : x .codes ≡ 1) where
-      du : Sited s u P M x
-      du = front-sited t u front s P M x (w .bounded .class) (w .bounded .method) (w .bounded .classes) dt
-
-      yu : Typed u P (x .classes)
-      yu = front-typed t u front P (x .classes) (w .bounded .classes) yt
-
-      says-now : is (r .refusal) ≡ verdict (lineClaims P M t f o (current live (held t h)))
-      says-now =
-          d .says P M du yu one ∙ sym (claims-left P M u f o (some (held u g)) (held u g) (arrived .same) (arrived .met P))
-          ∙ ap (λ (fs : List Frame). verdict (instructionClaims P M fs o (instruction P M o) (held u g))) frames
-          ∙ ap (λ (S : State). verdict (instructionClaims P M (framesOf t f) o (instruction P M o) S)) (l z)
-          ∙ line-on P M t f o (current live (held t h)) (firstClass + x .classes) (dt .parents) a (met-at s t u x kin f live h o w a g m l go out) z
-
-      leaves-now : r .refusal ≡ 0 → current (r .live) (held v (r .held)) ≡ lineAfter P M t f o (current live (held t h))
-      leaves-now y =
-          d .leaves P M du yu one y ∙ sym (after-left P M u f o (some (held u g)) (held u g) (arrived .same))
-          ∙ after-left P M t f o (current live (held t h)) (held u g) (sym (l z))
-
-    pub line-arrived : LineDone s t v x f live h o r
-    line-arrived = record {
-      says = says-now;
-      leaves = leaves-now;
-      going = record { at = d .going .at ∙ go .at; locals = d .going .locals ∙ go .locals; depth = d .going .depth };
-      front = d .front ∙ front;
-    }
+  -- it asks and leaves what the state that came does
+  pub arrived-same : (P : Program) (M : Method) → Sited s t P M x
+      → (verdict (lineClaims P M t f o (some (held u g))) ≡ verdict (lineClaims P M t f o (current live (held t h)))) × (lineAfter P M t f o (some (held u g)) ≡ lineAfter P M t f o (current live (held t h)))
+  arrived-same P M d =
+      let F = frameAt (framesOf t f) o in
+      let S = same-self live (held t h) (held u g) F (l z) in (
+        sym (claims-left P M t f o (some (held u g)) (held u g) S (met-self live (held t h) (held u g) F (l z) P))
+            ∙ ap (λ (T : State). verdict (instructionClaims P M (framesOf t f) o (instruction P M o) T)) (l z)
+            ∙ line-on P M t f o (current live (held t h)) (firstClass + x .classes) (d .parents) a (met-at s t u x kin f live h o w a g m l go out) z,
+        sym (after-left P M t f o (some (held u g)) (held u g) S) ∙ after-left P M t f o (current live (held t h)) (held u g) (sym (l z)),
+      )

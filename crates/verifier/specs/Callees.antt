@@ -2,11 +2,11 @@
 -- Assumes nothing.
 use Prim.Native.Nat.{ℕ, zero, suc, _+_, _-_, _*_, _^_, _/_, _%_, _<_, _≤_}
 use mathlib.Core.Path.{_≡_, refl, sym, ap, _∙_}
-use mathlib.Core.Bool.{Bool, true, false, cond}
+use mathlib.Core.Bool.{cond}
 use mathlib.Core.List.{List, [], _∷_, _++_, reverse, reverse-append}
 use mathlib.Core.Logic.{_⊎_, inl, inr}
 use native.Mathlib.Omega.{arith}
-use lib.Dec.{eqb, ltb}
+use lib.Dec.{ltb}
 use lib.ListN.{length, getD, take}
 use lib.Seq.{getD-take}
 use borrow.Author.Tests.{lt-ltb, le-ltb, eq-eqb, ne-eqb}
@@ -16,7 +16,7 @@ use Rattle.classfiles.specs.BlockWords.{take-put, listed-same}
 use Rattle.reader.specs.BuiltIns.{firstClass}
 use Rattle.classfiles.specs.Descriptors.{Desc, dint}
 use Rattle.reader.specs.TypeCodes.{codesIn, paramsIn, resultsIn, resultOf, descOf as codeDesc}
-use Rattle.reader.specs.Program.{Program, Method, method}
+use Rattle.reader.specs.Program.{Program, method}
 use Rattle.rules.specs.Types.{Ty, tyOf, tysOf}
 use Rattle.rules.specs.TypeWords.{typeOf}
 use Rattle.rules.specs.InstructionWords.{descOf}
@@ -82,17 +82,17 @@ module _ (t : List ℕ) (k : ℕ) where
   back-past h = sym (rw (le-ltb k 1024 h))
 
   module _ (h : k < 1024) (v : ℕ) (e : resultOf v ≡ resultsIn t k) where
-    there : resultsIn t k ≡ backOf t k
+    pub back-is : resultOf v ≡ backOf t k
     unfolding backOf
-    there = sym (rw (lt-ltb k 1024 h))
+    back-is = e ∙ sym (rw (lt-ltb k 1024 h))
 
     pub back-none : v ≡ 256 → [] ≡ backOf t k
     unfolding resultOf
-    back-none z = sym (rw (eq-eqb v 256 z)) ∙ e ∙ there
+    back-none z = sym (rw (eq-eqb v 256 z)) ∙ back-is
 
     pub back-some : (v ≡ 256 → ⊥) → codeDesc v ∷ [] ≡ backOf t k
     unfolding resultOf
-    back-some z = sym (rw (ne-eqb v 256 z)) ∙ e ∙ there
+    back-some z = sym (rw (ne-eqb v 256 z)) ∙ back-is
 
 -- what the code's result stands for, as a descriptor and as a type
 pub record Back (g : Gives) (ds : List Desc) : Type 0 where
@@ -146,6 +146,10 @@ listed-put x i w ds d u v l e f h t = record { types = λ j k. types j k (side j
         let z : j ≡ i = omega arith in
         sym (slot-is v (x + j)) ∙ as-slot _ _ (ap (λ (y : ℕ). word v (x + y)) z ∙ at-word (x + i) ∙ word-same u (x + i) w h f) ∙ t ∙ ap (λ (y : ℕ). tyOf (getD ds y d)) (sym z)
 
+pub length-tys : (ds : List Desc) → length (tysOf ds) ≡ length ds
+length-tys [] = refl
+length-tys (d ∷ ds) = ap suc (length-tys ds)
+
 -- all of them: the arguments as a call takes them, the last first
 take-snoc : (ds : List Desc) (n : ℕ) (d : Desc) → n < length ds → take (suc n) ds ≡ take n ds ++ (getD ds n d ∷ [])
 take-snoc [] n d h = absurd (omega arith)
@@ -156,6 +160,10 @@ tys-append : (ds es : List Desc) → tysOf (ds ++ es) ≡ tysOf ds ++ tysOf es
 tys-append [] es = refl
 tys-append (d ∷ ds) es = ap (λ (l : List Ty). tyOf d ∷ l) (tys-append ds es)
 
+pub taken-last : (ds : List Desc) (n : ℕ) (d : Desc) → n < length ds → reverse (tysOf (take (suc n) ds)) ≡ tyOf (getD ds n d) ∷ reverse (tysOf (take n ds))
+taken-last ds n d h =
+    ap (λ (y : List Desc). reverse (tysOf y)) (take-snoc ds n d h) ∙ ap reverse (tys-append (take n ds) (getD ds n d ∷ [])) ∙ reverse-append (tysOf (take n ds)) (tyOf (getD ds n d) ∷ [])
+
 listed-taken : (x n : ℕ) (ds : List Desc) (d : Desc) (u : List ℕ) → Listed x n ds d u → n ≤ length ds → stackAt u x n ≡ reverse (tysOf (take n ds))
 unfolding stackAt
 listed-taken x zero ds d u l h = refl
@@ -163,9 +171,9 @@ listed-taken x (suc n) ds d u l h =
     let r : stackAt u x n ≡ reverse (tysOf (take n ds)) = listed-taken x n ds d u (record { types = λ j k. l .types j (omega arith) }) (omega arith) in
     let p : slot u (x + n) ≡ tyOf (getD ds n d) = l .types n (omega arith) in
     let q : slot u (x + n) ∷ stackAt u x n ≡ tyOf (getD ds n d) ∷ reverse (tysOf (take n ds)) = cc in
-    q ∙ sym (ap (λ (y : List Desc). reverse (tysOf y)) (take-snoc ds n d (omega arith)) ∙ ap reverse (tys-append (take n ds) (getD ds n d ∷ [])) ∙ reverse-append (tysOf (take n ds)) (tyOf (getD ds n d) ∷ []))
+    q ∙ sym (taken-last ds n d (omega arith))
 
-take-all : (ds : List Desc) → take (length ds) ds ≡ ds
+pub take-all : (ds : List Desc) → take (length ds) ds ≡ ds
 take-all [] = refl
 take-all (d ∷ ds) = ap (λ (l : List Desc). d ∷ l) (take-all ds)
 

@@ -3,9 +3,12 @@ pub mod Callees
 pub mod Preparing
 pub mod Lineup
 pub mod Arrivals
+pub mod Ahead
 pub mod Walks
 pub mod Quick
 pub mod QuickNames
+pub mod QuickCalls
+pub mod Legs
 pub mod Starts
 pub mod MethodWalks
 pub mod TypedTables

@@ -1,8 +1,8 @@
 -- One line of the walk: what is read before the state does not change, so the tables say the same of the program throughout. Assumes nothing.
 use Prim.Native.Nat.{ℕ, _+_, _-_, _*_, _^_, _/_, _<_, _≤_}
 use mathlib.Core.Path.{_≡_, refl, sym, ap, subst, _∙_}
-use mathlib.Core.Bool.{Bool, true, false, cond}
-use mathlib.Core.List.{List, [], _∷_, _++_}
+use mathlib.Core.Bool.{Bool, cond}
+use mathlib.Core.List.{List, [], _++_}
 use mathlib.Core.Option.{Option, none, some}
 use mathlib.Core.Logic.{_⊎_, inl, inr}
 use native.Mathlib.Omega.{arith}
@@ -12,7 +12,7 @@ use lib.Seq.{getD-take}
 use borrow.Author.Tests.{lt-ltb, le-ltb}
 use Rattle.kit.specs.Pick.{side}
 use Rattle.kit.specs.Words.{word, word-take}
-use Rattle.kit.specs.Claims.{Claim, Ruling, pass, is, verdict, then, verdict-append, is-zero, is-not, pass-then, fail-then}
+use Rattle.kit.specs.Claims.{Claim, pass, is, verdict, verdict-append, is-zero, is-not, pass-then, fail-then}
 use Rattle.reader.specs.BuiltIns.{firstClass}
 use Rattle.classfiles.specs.Members.{Body}
 use Rattle.classfiles.specs.Attributes.{handlersFrom}
@@ -20,7 +20,7 @@ use Rattle.reader.specs.TypeCodes.{paramsIn, resultsIn, resultAt}
 use Rattle.reader.specs.Program.{Program, Method}
 use Rattle.rules.specs.Instruction.{Instr, falls}
 use Rattle.rules.specs.Opcodes.{body, instruction}
-use Rattle.rules.specs.States.{State, stateFits}
+use Rattle.rules.specs.States.{State}
 use Rattle.rules.specs.Frames.{Frame}
 use Rattle.rules.specs.Rule.{rule}
 use Rattle.rules.specs.Walk.{frameAt, meets, merged, instructionClaims, onward}
@@ -29,12 +29,12 @@ use Rattle.rules.specs.Ancestry.{lineage, Parents, states-lineage}
 use Rattle.rules.specs.Slots.{localsAt, stackAt, held, Outside, Roomy}
 use Rattle.rules.specs.SlotLaws.{locals-same, stack-same, slot-word, take-less}
 use Rattle.rules.specs.FrameRows.{framesOf, Laid}
-use Rattle.rules.specs.ResolvedWords.{wordOf, resolvedWord, resolvedOf, resolvedIn, Flagged}
+use Rattle.rules.specs.ResolvedWords.{wordOf, resolvedWord, resolvedOf, Flagged}
 use Rattle.rules.specs.Sites.{siteBody, siteCode, Sited, Bounded}
 use Rattle.shaping.specs.SiteLaws.{one-body, decoded}
 use Rattle.rules.specs.Decoding.{DecodedAt}
 use Rattle.rules.specs.Handlers.{catchIn, catch-is}
-use Rattle.rules.specs.Known.{Facts, factsOf, instrAfter}
+use Rattle.rules.specs.Known.{factsOf, instrAfter}
 use Rattle.rules.specs.KnownLaws.{Told, left-known}
 use Rattle.rules.specs.StepClaims.{stepBy, step-known, fallsOf, falls-of, frames-outside, laid-outside, Going}
 use Rattle.rules.specs.Loads.{current}
@@ -63,7 +63,7 @@ module _ (t u : List ℕ) (e : take 260736 u ≡ take 260736 t) where
   front-byte : (j : ℕ) → j < 260736 → getD u j 0 ≡ getD t j 0
   front-byte j l = sym (getD-take 260736 u j 0 l) ∙ ap (λ (z : List ℕ). getD z j 0) e ∙ getD-take 260736 t j 0 l
 
-  front-named : (c i : ℕ) → wordOf u c i ≡ wordOf t c i
+  pub front-named : (c i : ℕ) → wordOf u c i ≡ wordOf t c i
   unfolding wordOf
   front-named c i = go (side c 16) (side i 1024)
     where
@@ -241,7 +241,7 @@ module _ (s t : List ℕ) (x : Site) (kin : Kin) (f : Rows) (h : Held) (w : Walk
 pub outside-front : (t u : List ℕ) (a : ℕ) → a ≡ 65184 → Outside a t u → take 260736 u ≡ take 260736 t
 outside-front t u a e h = take-less 260736 (4 * a) t u (omega arith) (h .front)
 
-beside-front : (t u : List ℕ) → Beside 65256 t u → take 260736 u ≡ take 260736 t
+pub beside-front : (t u : List ℕ) → Beside 65256 t u → take 260736 u ≡ take 260736 t
 beside-front t u h = take-less 260736 261024 t u (omega arith) (h .front)
 
 module _ (s t u : List ℕ) (x : Site) (kin : Kin) (f : Rows) (live : Bool) (h : Held) (o : ℕ) (w : Walking s t x kin f h) (a : ℕ) (g : Held)

@@ -1,14 +1,11 @@
 -- What the code prepares for an instruction's rule is so of the program and method at a site. Assumes nothing.
-use Prim.Native.Nat.{ℕ, suc, _+_, _*_, _/_, _%_, _<_, _≤_}
+use Prim.Native.Nat.{ℕ, _+_, _*_, _/_, _%_, _<_, _≤_}
 use mathlib.Core.Path.{_≡_, refl, sym, ap, _∙_}
-use mathlib.Core.Bool.{Bool, true, false}
-use mathlib.Core.List.{List, [], _∷_, reverse}
-use mathlib.Core.Logic.{_⊎_, inl, inr}
+use mathlib.Core.List.{List, reverse}
+use mathlib.Core.Logic.{inl}
 use native.Mathlib.Omega.{arith}
 use lib.ListN.{length, length-reverse}
 use borrow.Author.Tests.{lt-ltb}
-use Rattle.kit.specs.Words.{word}
-use Rattle.reader.specs.BuiltIns.{firstClass}
 use Rattle.classfiles.specs.Descriptors.{Desc}
 use Rattle.reader.specs.TypeCodes.{resultsIn}
 use Rattle.reader.specs.Program.{Program, Method, method}
@@ -16,20 +13,20 @@ use Rattle.rules.specs.Instruction.{newClass}
 use Rattle.rules.specs.Opcodes.{instruction}
 use Rattle.rules.specs.Resolve.{found}
 use Rattle.rules.specs.Lines.{newClassAt}
-use Rattle.rules.specs.Types.{Key, at, self, Ty, tyOf, tysOf}
+use Rattle.rules.specs.Types.{at, self, Ty, tysOf}
 use Rattle.rules.specs.States.{operand}
-use Rattle.rules.specs.Rule.{keyOf, arguments}
+use Rattle.rules.specs.Rule.{keyOf}
 use Rattle.rules.specs.TypeWords.{typeOf}
 use Rattle.rules.specs.TypeLaws.{type-uninit}
 use Rattle.rules.specs.InstructionWords.{plainOf, branchOf, localOf, stackOf, leaveOf, calleeOf, callOf, instrOf}
 use Rattle.rules.specs.Slots.{stackAt, operandsOf, Roomy}
-use Rattle.rules.specs.SlotLaws.{length-stack, stack-same, slot-word}
+use Rattle.rules.specs.SlotLaws.{stack-same, slot-word}
 use Rattle.rules.specs.Decoding.{DecodedAt}
 use Rattle.rules.specs.Sites.{siteCode, Sited}
 use Rattle.shaping.specs.SiteLaws.{decoded}
-use Rattle.rules.specs.Known.{Facts, factsOf, calleeIn}
-use Rattle.rules.specs.KnownLaws.{CallTold, Told, key-self}
-use Rattle.verifier.specs.Callees.{entryOf, paramsOf, backOf, Typed, Back, Beside, Ready}
+use Rattle.rules.specs.Known.{factsOf, calleeIn}
+use Rattle.rules.specs.KnownLaws.{Told, key-self}
+use Rattle.verifier.specs.Callees.{entryOf, paramsOf, backOf, Typed, Back, Beside, length-tys, Ready}
 use Rattle.rules.specs.declared.site.Site.{Site}
 use Rattle.rules.specs.declared.slots.Held.{Held}
 use Rattle.rules.specs.declared.calls.Known.{Known}
@@ -181,10 +178,6 @@ pub record Prepared (s t u : List ℕ) (x : Site) (h : Held) (i : code.Instr) (k
   pub at : k .args .at ≡ 65256
   pub count : k .args .count < 32
   pub beside : Beside 65256 t u
-
-length-tys : (ds : List Desc) → length (tysOf ds) ≡ length ds
-length-tys [] = refl
-length-tys (d ∷ ds) = ap suc (length-tys ds)
 
 module _ (s t u : List ℕ) (x : Site) (h : Held) (i : code.Instr) (k : Known) (m : Callee) (e n w : ℕ) where
   pub prepared : Roomy t h → h .at + 72 ≤ 65256 → m ≡ calleeAt i → e ≡ entryOf t (x .classes) (m .owner) (m .index)

@@ -1,60 +1,57 @@
 -- Instructions by their opcodes, where nothing is refused: what the answer says of a line of the walk. Assumes nothing.
-use Prim.Native.Nat.{ℕ, suc, _+_, _-_, _*_, _^_, _/_, _%_, _<_, _≤_}
+use Prim.Native.Nat.{ℕ, suc, _+_, _-_, _*_, _^_, _%_, _<_, _≤_}
 use mathlib.Core.Path.{_≡_, refl, sym, ap, subst, _∙_}
 use mathlib.Core.Bool.{Bool, true, false, cond}
-use mathlib.Core.List.{List, [], _∷_, _++_}
+use mathlib.Core.List.{List, [], _∷_}
 use mathlib.Core.Option.{Option, none, some}
 use native.Mathlib.Omega.{arith}
-use lib.Dec.{leb, T}
-use lib.ListN.{length, getD, take, drop, set}
-use borrow.Author.Tests.{le-leb, leb-true}
-use Rattle.kit.specs.Words.{word}
+use lib.Dec.{ltb, leb, T}
+use lib.ListN.{length, getD, drop}
+use borrow.Author.Tests.{le-leb, leb-true, lt-ltb, le-ltb}
 use Rattle.kit.specs.Bools.{T-true, true-T, not-so}
-use Rattle.kit.specs.Claims.{Claim, claim, Ruling, pass, is, verdict, then, is-zero, all-pass, AllT, pass-all, verdict-yes, verdict-none}
+use Rattle.kit.specs.Claims.{Claim, claim, pass, is, verdict, then, is-zero, all-pass, AllT, pass-all, verdict-yes, verdict-none}
 use Rattle.reader.specs.BuiltIns.{firstClass}
 use Rattle.classfiles.specs.Attributes.{handlersFrom}
-use Rattle.classfiles.specs.Members.{Body, Handler}
+use Rattle.classfiles.specs.Members.{Body}
 use Rattle.reader.specs.Program.{Program, Method}
 use Rattle.rules.specs.Instruction.{Instr, falls, targets}
-use Rattle.rules.specs.Opcodes.{instruction, body}
+use Rattle.rules.specs.Opcodes.{instruction}
 use Rattle.rules.specs.Resolve.{Resolved}
-use Rattle.rules.specs.Types.{Key, Ty, top, int, null, isInt, isReference, fits}
+use Rattle.rules.specs.Types.{Ty, top, int, null, isInt, isReference, fits}
 use Rattle.rules.specs.States.{State, state, stack, operand}
 use Rattle.rules.specs.Frames.{Frame}
 use Rattle.rules.specs.Rule.{rule, keyOf}
 use Rattle.rules.specs.Walk.{frameAt, intoFrame, operandsFit, branchClaims, instructionClaims}
 use Rattle.rules.specs.InstructionWords.{branchOf, instrOf}
-use Rattle.rules.specs.Ancestry.{lineage, Parents}
-use Rattle.rules.specs.Slots.{localsAt, stackAt, localsOf, operandsOf, held, Outside, Roomy, Placed, Moved, pushed, dropped, stored, veil}
+use Rattle.rules.specs.Ancestry.{lineage}
+use Rattle.rules.specs.Slots.{localsOf, operandsOf, held, Outside, Placed, Moved, pushed, dropped, stored, veil}
 use Rattle.rules.specs.SlotLaws.{length-stack, drop-stack, outside-none, claim-yes, cut-held, veil-no}
-use Rattle.rules.specs.Forms.{asked, formClaims, plainTakes, plainGives, branchTakes, turned, Kept}
+use Rattle.rules.specs.Forms.{asked, formClaims, plainTakes, plainGives, branchTakes}
 use Rattle.rules.specs.FormLaws.{form-claims}
 use Rattle.rules.specs.Groups.{localClaims, localAfter, stackClaims, stackAfter}
-use Rattle.rules.specs.FrameRows.{framesAt, framesOf, Laid}
-use Rattle.rules.specs.FrameLaws.{half-start, half-up, half-down, half-end}
-use Rattle.rules.specs.ResolvedWords.{resolvedIn, wordOf, Flagged}
+use Rattle.rules.specs.FrameRows.{framesOf, Laid}
+use Rattle.rules.specs.ResolvedWords.{resolvedIn}
 use Rattle.rules.specs.Sites.{siteBody, siteCode, Sited}
 use Rattle.shaping.specs.SiteLaws.{one-body, decoded}
 use Rattle.rules.specs.Decoding.{made, DecodedAt}
 use Rattle.rules.specs.Handlers.{catchIn, catch-is, handlersBy}
 use Rattle.rules.specs.Known.{Facts, instrClaims, instrAfter, hides}
 use Rattle.rules.specs.KnownLaws.{Told, left-known}
-use Rattle.rules.specs.StepClaims.{stepBy, step-jump, step-known, targetsOf, fallsOf, falls-of, no-jump, jump-branch, Going, going-on, going-same}
+use Rattle.rules.specs.StepClaims.{stepBy, step-jump, step-known, targetsOf, fallsOf, falls-of, no-jump, jump-branch, going-on, going-same}
 use Rattle.rules.specs.Loads.{current}
-use Rattle.verifier.specs.Callees.{Typed}
 use Rattle.verifier.specs.Lineup.{lineClaims, lineAfter, claims-left, after-left, Walking, Entered, LineDone, outside-front, walking-roomy}
 use Rattle.rules.specs.declared.site.Site.{Site}
 use Rattle.rules.specs.declared.slots.Held.{Held}
 use Rattle.rules.specs.declared.frames.Rows.{Rows}
 use Rattle.rules.specs.declared.types.Kin.{Kin}
-use Rattle.verifier.specs.declared.walk.Turn.{Turn}
 use Rattle.rules.specs.declared.instruction.Plain.{Plain}
 use Rattle.rules.specs.declared.instruction.Plain.the-variants.{Aconstnull, Iconst, Ibin, Idiv}
 use Rattle.rules.specs.declared.instruction.Branch.{Branch}
 use Rattle.rules.specs.declared.instruction.Branch.the-variants.{Goto, Ifint, Ificmp}
+use Rattle.rules.specs.declared.instruction.Local.{Local}
 use Rattle.rules.specs.declared.instruction.Local.the-variants.{Iload, Aload, Istore, Astore, Iinc}
-use Rattle.rules.specs.declared.instruction.Stack.the-variants.{Dup}
-use Rattle.rules.specs.declared.instruction.Call.{Call}
+use Rattle.rules.specs.declared.instruction.Stack.{Stack}
+use Rattle.rules.specs.declared.instruction.Stack.the-variants.{Dup, Dupx1, Swap, Arraylength, Aaload}
 use Rattle.rules.specs.declared.instruction.Instr as code
 use Rattle.rules.specs.declared.instruction.Instr.the-variants.{Simple, Jump, OnLocal, OnStack, Leaving, New, Calling, Illegal, Unresolved}
 
@@ -413,13 +410,93 @@ pub record Open (s t : List ℕ) (x : Site) (kin : Kin) (f : Rows) (h : Held) (o
   pub entered : Entered t f h o
   pub handled : is 0 ≡ verdict (handlersBy (lineage t (kin .at) (kin .count)) (catchIn t (x .class) (firstClass + x .classes)) (framesOf t f) o (h .flag) (localsOf t h) (handlersFrom s (x .entries) (x .table)))
 
+-- opcodes that leave the locals as they are, of those without a name
+unfoldable pub steady : ℕ → Bool
+steady op = cond (ltb op 0x12) true (cond (ltb op 0x15) false (cond (ltb op 0x36) true (cond (ltb op 0x57) false (ltb op 0xa8))))
+
+-- as the code tests it
+module _ (op : ℕ) where
+  pub steady-constant : op < 0x12 → true ≡ steady op
+  unfolding steady
+  steady-constant a = sym (rw (lt-ltb op 0x12 a))
+
+  module _ (a : 0x12 ≤ op) where
+    pub steady-named : op < 0x15 → false ≡ steady op
+    unfolding steady
+    steady-named b = sym (rw (le-ltb op 0x12 a, lt-ltb op 0x15 b))
+
+    module _ (b : 0x15 ≤ op) where
+      pub steady-load : op < 0x36 → true ≡ steady op
+      unfolding steady
+      steady-load c = sym (rw (le-ltb op 0x12 a, le-ltb op 0x15 b, lt-ltb op 0x36 c))
+
+      module _ (c : 0x36 ≤ op) where
+        pub steady-store : op < 0x57 → false ≡ steady op
+        unfolding steady
+        steady-store d = sym (rw (le-ltb op 0x12 a, le-ltb op 0x15 b, le-ltb op 0x36 c, lt-ltb op 0x57 d))
+
+        pub steady-rest : 0x57 ≤ op → ltb op 0xa8 ≡ steady op
+        unfolding steady
+        steady-rest d = sym (rw (le-ltb op 0x12 a, le-ltb op 0x15 b, le-ltb op 0x36 c, le-ltb op 0x57 d))
+
+-- instructions that do
+abbrev localKeeps : Local → Bool
+localKeeps (Iload j) = true
+localKeeps (Aload j) = true
+localKeeps (Istore j) = false
+localKeeps (Astore j) = false
+localKeeps (Iinc j k) = true
+
+abbrev pub keeps : code.Instr → Bool
+keeps (Simple i) = true
+keeps (Jump i) = true
+keeps (OnLocal i) = localKeeps i
+keeps (OnStack i) = true
+keeps (Leaving i) = false
+keeps (New c) = false
+keeps (Calling c) = false
+keeps Illegal = false
+keeps Unresolved = false
+
+abbrev localsIn : State → List Ty
+localsIn (state g l s) = l
+
+local-kept : (i : Local) (S : State) → localKeeps i ≡ true → localsIn (localAfter i S) ≡ localsIn S
+unfolding localAfter
+local-kept (Iload j) (state g l s) e = refl
+local-kept (Aload j) (state g l s) e = refl
+local-kept (Istore j) (state g l s) e = absurd (not-so e)
+local-kept (Astore j) (state g l s) e = absurd (not-so e)
+local-kept (Iinc j k) (state g l s) e = refl
+
+stack-kept : (i : Stack) (S : State) → localsIn (stackAfter i S) ≡ localsIn S
+unfolding stackAfter
+stack-kept Dup (state g l s) = refl
+stack-kept Dupx1 (state g l s) = refl
+stack-kept Swap (state g l s) = refl
+stack-kept Arraylength (state g l s) = refl
+stack-kept Aaload (state g l s) = refl
+
+locals-kept : (F : Facts) (o : ℕ) (i : code.Instr) (S : State) → keeps i ≡ true → localsIn (instrAfter F o i S) ≡ localsIn S
+unfolding instrAfter
+locals-kept F o (Simple i) (state g l s) e = refl
+locals-kept F o (Jump i) (state g l s) e = refl
+locals-kept F o (OnLocal i) S e = local-kept i S e
+locals-kept F o (OnStack i) S e = stack-kept i S
+locals-kept F o (Leaving i) S e = absurd (not-so e)
+locals-kept F o (New c) S e = absurd (not-so e)
+locals-kept F o (Calling c) S e = absurd (not-so e)
+locals-kept F o Illegal S e = absurd (not-so e)
+locals-kept F o Unresolved S e = absurd (not-so e)
+
 pub record Tried (s t u : List ℕ) (x : Site) (f : Rows) (live : Bool) (h : Held) (o v : ℕ) : Type 0 where
   pub on : (v ≡ 65 → ⊥) → (v ≡ 64 → ⊥) → LineDone s t u x f live h o (record { refusal = 0; live = true; held = down h v })
   pub off : v ≡ 64 → LineDone s t u x f live h o (record { refusal = 0; live = false; held = h })
   pub kept : v ≡ 65 → u ≡ t
+  pub same : (v ≡ 65 → ⊥) → (v ≡ 64 → ⊥) → steady (getD (siteCode s x) o 0) ≡ true → localsOf u h ≡ localsOf t h
 
 pub tried-none : (s t : List ℕ) (x : Site) (f : Rows) (live : Bool) (h : Held) (o v : ℕ) → v ≡ 65 → Tried s t t x f live h o v
-tried-none s t x f live h o v e = record { on = λ z. absurd (z e); off = λ z. absurd (omega arith); kept = λ z. refl }
+tried-none s t x f live h o v e = record { on = λ z. absurd (z e); off = λ z. absurd (omega arith); kept = λ z. refl; same = λ z. absurd (z e) }
 
 -- the turn, with the state's place as it was made
 pub tried-on : (s t u : List ℕ) (x : Site) (f : Rows) (live : Bool) (h : Held) (o v : ℕ) → Tried s t u x f live h o v → (v ≡ 65 → ⊥) → (v ≡ 64 → ⊥) → (q : Held) → q ≡ down h v
@@ -441,8 +518,11 @@ calls Unresolved = false
 abbrev pub ownFacts : Method → Facts
 ownFacts M = record { results = M .results; params = []; gives = []; own = M .owner; made = 0 }
 
+pub own-told : (P : Program) (M : Method) (i : code.Instr) (s : List Ty) → calls i ≡ false → Told P M (ownFacts M) s i
+own-told P M i s plain = record { results = refl; own = refl; call = λ c q. absurd (not-so (sym plain ∙ ap calls q)) }
+
 module _ (s t u : List ℕ) (x : Site) (kin : Kin) (f : Rows) (h : Held) (o : ℕ) (i : code.Instr) (v : ℕ) (apt : Open s t x kin f h o)
-    (d : DecodedAt s t (x .class) (siteCode s x) o i) (plain : calls i ≡ false) (hide : hides i ≡ false) where
+    (d : DecodedAt s t (x .class) (siteCode s x) o i) (hide : hides i ≡ false) where
   w : Walking s t x kin f h
   w = apt .walking
 
@@ -469,9 +549,6 @@ module _ (s t u : List ℕ) (x : Site) (kin : Kin) (f : Rows) (h : Held) (o : �
       ∙ ap (λ (c : ℕ). verdict (stepBy (lineage t 25728 c) (catchIn t (x .class) (firstClass + x .classes)) (framesOf t f) (handlersFrom s (x .entries) (x .table)) (x .stack) F o i (held t h))) (w .kinCount)
 
   module _ (P : Program) (M : Method) (dt : Sited s t P M x) (one : x .codes ≡ 1) where
-    told : Told P M (ownFacts M) (operandsOf t h) i
-    told = record { results = refl; own = refl; call = λ c q. absurd (not-so (sym plain ∙ ap calls q)) }
-
     made-is : instrOf i ≡ instruction P M o
     made-is = decoded s t P M x dt o i one d
 
@@ -481,36 +558,37 @@ module _ (s t u : List ℕ) (x : Site) (kin : Kin) (f : Rows) (h : Held) (o : �
     line-left : (X : Option State) → X ≡ cond (falls (instruction P M o)) (some (rule P M o (instruction P M o) (held t h) .after)) none → X ≡ lineAfter P M t f o (current true (held t h))
     line-left X q = q ∙ after-left P M t f o (some (held t h)) (held t h) (apt .entered .same)
 
-    pub line-says : Asked (ownFacts M) → Led (ownFacts M) → is 0 ≡ verdict (lineClaims P M t f o (current true (held t h)))
-    unfolding siteBody
-    line-says a b =
-        step (ownFacts M) a b
-        ∙ step-known P M t 25728 (firstClass + x .classes) (dt .parents) (catchIn t (x .class) (firstClass + x .classes)) (framesOf t f) (handlersFrom s (x .entries) (x .table)) (x .stack) (ownFacts M) o i
-        (catch-is s t P M x dt) (sym (ap (λ (b : Body). b .table) (one-body s t P M x dt one))) (sym (ap (λ (b : Body). b .maxStack) (one-body s t P M x dt one))) (held t h) told
-        ∙ ap (λ (j : Instr). verdict (instructionClaims P M (framesOf t f) o j (held t h))) made-is
-        ∙ line-claims
-
     pub line-away : false ≡ fallsOf i → current false (held u h) ≡ lineAfter P M t f o (current true (held t h))
     line-away e =
         line-left (current false (held u h))
         (ap (λ (b : Bool). cond b (some (rule P M o (instruction P M o) (held t h) .after)) none) (e ∙ falls-of i ∙ ap falls made-is))
 
-    line-on : true ≡ fallsOf i → held u (down h v) ≡ instrAfter (ownFacts M) o i (held t h) → current true (held u (down h v)) ≡ lineAfter P M t f o (current true (held t h))
-    line-on e a =
-        line-left (current true (held u (down h v)))
-        (ap (λ (b : Bool). current b (held u (down h v))) (e ∙ falls-of i ∙ ap falls made-is)
-        ∙ ap (λ (T : State). current (falls (instruction P M o)) T)
-        (left-known P M t 25728 (firstClass + x .classes) (dt .parents) (ownFacts M) o i (h .flag) (localsOf t h) (operandsOf t h) told (held u (down h v)) a
-        ∙ ap (λ (j : Instr). rule P M o j (held t h) .after) made-is))
+    module _ (F : Facts) (told : Told P M F (operandsOf t h) i) where
+      pub line-says : Asked F → Led F → is 0 ≡ verdict (lineClaims P M t f o (current true (held t h)))
+      unfolding siteBody
+      line-says a b =
+          step F a b
+          ∙ step-known P M t 25728 (firstClass + x .classes) (dt .parents) (catchIn t (x .class) (firstClass + x .classes)) (framesOf t f) (handlersFrom s (x .entries) (x .table)) (x .stack) F o i
+          (catch-is s t P M x dt) (sym (ap (λ (b : Body). b .table) (one-body s t P M x dt one))) (sym (ap (λ (b : Body). b .maxStack) (one-body s t P M x dt one))) (held t h) told
+          ∙ ap (λ (j : Instr). verdict (instructionClaims P M (framesOf t f) o j (held t h))) made-is
+          ∙ line-claims
+
+      pub line-on : true ≡ fallsOf i → held u (down h v) ≡ instrAfter F o i (held t h) → current true (held u (down h v)) ≡ lineAfter P M t f o (current true (held t h))
+      line-on e a =
+          line-left (current true (held u (down h v)))
+          (ap (λ (b : Bool). current b (held u (down h v))) (e ∙ falls-of i ∙ ap falls made-is)
+          ∙ ap (λ (T : State). current (falls (instruction P M o)) T)
+          (left-known P M t 25728 (firstClass + x .classes) (dt .parents) F o i (h .flag) (localsOf t h) (operandsOf t h) told (held u (down h v)) a
+          ∙ ap (λ (j : Instr). rule P M o j (held t h) .after) made-is))
 
   someFacts : Facts
   someFacts = record { results = []; params = []; gives = []; own = 0; made = 0 }
 
-  pub tried-easy : Easy (lineage t (kin .at) (kin .count)) (framesOf t f) t u (x .stack) h o i v → Tried s t u x f true h o v
-  tried-easy e = record {
+  pub tried-easy : calls i ≡ false → (steady (getD (siteCode s x) o 0) ≡ true → keeps i ≡ true) → Easy (lineage t (kin .at) (kin .count)) (framesOf t f) t u (x .stack) h o i v → Tried s t u x f true h o v
+  tried-easy plain k e = record {
     on = λ z y. record {
-      says = λ P M dt yt one. line-says P M dt one (e .asks z (ownFacts M)) (e .jumps z (ownFacts M));
-      leaves = λ P M dt yt one q. line-on P M dt one (e .falls z y) (e .after z y (ownFacts M));
+      says = λ P M dt yt one. line-says P M dt one (ownFacts M) (own-told P M i (operandsOf t h) plain) (e .asks z (ownFacts M)) (e .jumps z (ownFacts M));
+      leaves = λ P M dt yt one q. line-on P M dt one (ownFacts M) (own-told P M i (operandsOf t h) plain) (e .falls z y) (e .after z y (ownFacts M));
       going =
           going-on Q (x .stack) someFacts o i (held t h) 0 (e .asks z someFacts) refl (w .bounded .stack) h (down h v) u
           (record { at = refl; locals = refl; depth = e .depth z y }) (e .after z y someFacts);
@@ -519,12 +597,13 @@ module _ (s t u : List ℕ) (x : Site) (kin : Kin) (f : Rows) (h : Held) (o : �
     off = λ y.
         let z : v ≡ 65 → ⊥ = λ q. omega arith in
         record {
-          says = λ P M dt yt one. line-says P M dt one (e .asks z (ownFacts M)) (e .jumps z (ownFacts M));
+          says = λ P M dt yt one. line-says P M dt one (ownFacts M) (own-told P M i (operandsOf t h) plain) (e .asks z (ownFacts M)) (e .jumps z (ownFacts M));
           leaves = λ P M dt yt one q. line-away P M dt one (e .stays y);
           going = going-same h (w .depth);
           front = outside-front t u (h .at) (w .at) (e .outside);
         };
     kept = e .kept;
+    same = λ z y q. ap localsIn (e .after z y someFacts) ∙ locals-kept someFacts o i (held t h) (k q);
   }
 
 -- by its opcode
@@ -532,61 +611,18 @@ abbrev pub targetAt : List ℕ → ℕ → ℕ
 targetAt bytes o = (o + (getD bytes (o + 1) 0 * 256 + getD bytes (o + 2) 0)) % 2 ^ 16
 
 module _ (s t u : List ℕ) (x : Site) (kin : Kin) (f : Rows) (h : Held) (o : ℕ) (v : ℕ) (bytes : List ℕ) (apt : Open s t x kin f h o) (same : bytes ≡ siteCode s x) where
-  pub tried-arm : (op k : ℕ) → op ≡ getD bytes o 0 → op ≡ k → (i : code.Instr) → calls i ≡ false → hides i ≡ false
+  pub tried-arm : (op k : ℕ) → op ≡ getD bytes o 0 → op ≡ k → (i : code.Instr) → calls i ≡ false → hides i ≡ false → cond (steady k) (keeps i) true ≡ true
       → ((P : Program) (pool : ℕ → Resolved) → instrOf i ≡ made P pool k (getD bytes (o + 1) 0) (getD bytes (o + 2) 0) o)
       → Easy (lineage t (kin .at) (kin .count)) (framesOf t f) t u (x .stack) h o i v → Tried s t u x f true h o v
-  tried-arm op k a b i plain hide m e =
+  tried-arm op k a b i plain hide l m e =
       tried-easy s t u x kin f h o i v apt
       (subst (λ (l : List ℕ). DecodedAt s t (x .class) l o i) same
       (record { is = λ P g. m P (resolvedIn s t (x .class)) ∙ ap (λ (j : ℕ). made P (resolvedIn s t (x .class)) j (getD bytes (o + 1) 0) (getD bytes (o + 2) 0) o) (sym b ∙ a) }))
-      plain hide e
-
--- ---- no frame at o: the rows below one stand before it, and that one behind it
-module _ (t : List ℕ) (f : Rows) (laid : Laid t f) (o row : ℕ) where
-  abbrev R : Option State
-  R = frameAt (framesOf t f) o
-
-  abbrev From : ℕ → Type 0
-  From k = frameAt (framesAt t (f .locals) (f .at + 68 * k) (f .count - k)) o ≡ R
-
-  pub rows-first : row ≡ 0 → From row
-  rows-first e = rw e (half-start t f o)
-
-  pub rows-up : (w : ℕ) → (row ≡ 0 → ⊥) → row ≤ f .count → w ≡ word t (f .at + 68 * (row - 1) + 64) → w < o → From row
-  rows-up w z l e q =
-      let y : row - 1 + 1 ≡ row = omega arith in
-      subst From y (half-up t f laid o 0 (f .count) R (half-start t f o) (omega arith) (row - 1) w (omega arith) (omega arith) e q)
-
-  module _ (from : From row) where
-    pub rows-over : f .count ≤ row → R ≡ none
-    rows-over l = sym (half-end t f laid o row (f .count) R from (omega arith) l)
-
-    pub rows-down : (w : ℕ) → row < f .count → w ≡ word t (f .at + 68 * row + 64) → o < w → R ≡ none
-    rows-down w l e q =
-        sym (half-end t f laid o row row R (half-down t f laid o row (f .count) R from (omega arith) row w (omega arith) l e q) (omega arith) (omega arith))
+      hide plain (λ q. sym (ap (λ (c : Bool). cond c (keeps i) true) (ap steady (sym b ∙ a ∙ ap (λ (l : List ℕ). getD l o 0) same) ∙ q)) ∙ l) e
 
 -- ---- the handlers
-module _ (L : Program) (catchOf : ℕ → ℕ) (fs : List Frame) (o : ℕ) (g : Bool) (l : List Ty) where
-  pub calm-none : (s : List ℕ) (n q : ℕ) → n ≡ 0 → is 0 ≡ verdict (handlersBy L catchOf fs o g l (handlersFrom s n q))
-  unfolding handlersBy handlersFrom
-  calm-none s n q e = rw e (passes [] tt)
-
-  pub calm-all : (hs : List Handler) (k : Key) (r : ℕ) → is r ≡ verdict (handlersBy L catchOf fs o g (veil false k l) hs) → r ≡ 0 → is 0 ≡ verdict (handlersBy L catchOf fs o g l hs)
-  calm-all hs k r h z = ap is (sym z) ∙ h ∙ ap (λ (m : List Ty). verdict (handlersBy L catchOf fs o g m hs)) (veil-no k l)
-
 pub calm-ready : (s t : List ℕ) (x : Site) (kin : Kin) (f : Rows) (h : Held) → Walking s t x kin f h
     → (x .classes ≤ 16) × Laid t f × Placed t h × (x .table ≤ 2 ^ 63) × (x .entries ≤ 32)
 calm-ready s t x kin f h w =
     let r = walking-roomy s t x kin f h w in let b = w .bounded .table in let i = r .inside in
     (w .bounded .classes, w .laid, record { inside = omega arith; locals = r .locals; depth = r .depth }, omega arith, w .bounded .entries)
-
--- where nothing was done
-module _ (s t t′ : List ℕ) (x : Site) (f : Rows) (h : Held) (e : t′ ≡ t) where
-  pub walking-kept : (kin : Kin) → Walking s t x kin f h → Walking s t′ x kin f h
-  walking-kept kin w = subst (λ (z : List ℕ). Walking s z x kin f h) (sym e) w
-
-  pub entered-kept : (o : ℕ) → Entered t f h o → Entered t′ f h o
-  entered-kept o w = subst (λ (z : List ℕ). Entered z f h o) (sym e) w
-
-  pub line-kept : (u : List ℕ) (live : Bool) (o : ℕ) (r : Turn) → LineDone s t′ u x f live h o r → LineDone s t u x f live h o r
-  line-kept u live o r d = subst (λ (z : List ℕ). LineDone s z u x f live h o r) e d

@@ -8,7 +8,7 @@ use native.Mathlib.Omega.{arith}
 use lib.Dec.{leb, eqb}
 use lib.ListN.{length, getD, drop}
 use borrow.Author.Tests.{le-leb, eqb-true, eqb-false, eq-eqb, ne-eqb}
-use Rattle.kit.specs.Bools.{true-T}
+use Rattle.kit.specs.Bools.{true-T, not-so}
 use Rattle.kit.specs.Claims.{claim, pass, is, verdict, verdict-yes, verdict-none}
 use Rattle.classfiles.specs.Descriptors.{cls, arr, Desc, dint, dref}
 use Rattle.texts.specs.Reading.{u4At}
@@ -36,7 +36,7 @@ use Rattle.rules.specs.Decoding.{made, DecodedAt}
 use Rattle.rules.specs.DecodeLaws.{number-yes, field-yes, type-yes, new-class}
 use Rattle.rules.specs.Known.{Facts, instrClaims, instrAfter, hides}
 use Rattle.rules.specs.StepClaims.{fallsOf, targetsOf, no-jump, going-same}
-use Rattle.verifier.specs.Quick.{down, Easy, easy-none, easy-on, pushes-int, said, passes, form-pass, none-fits, OneInt, Pushed, Goes, jumped, Open, Tried, tried-easy, ownFacts, line-says, line-away, calls}
+use Rattle.verifier.specs.Quick.{down, Easy, easy-none, easy-on, pushes-int, said, passes, form-pass, none-fits, OneInt, Pushed, Goes, jumped, Open, Tried, steady, tried-easy, ownFacts, own-told, line-says, line-away, calls}
 use Rattle.rules.specs.declared.site.Site.{Site}
 use Rattle.rules.specs.declared.slots.Held.{Held}
 use Rattle.rules.specs.declared.frames.Rows.{Rows}
@@ -248,15 +248,15 @@ module _ (t u z : List ℕ) (most : ℕ) (h g : Held) (o w v : ℕ) (key y : Ty)
 
 -- ---- by its opcode
 module _ (s t u : List ℕ) (x : Site) (kin : Kin) (f : Rows) (h : Held) (o : ℕ) (v : ℕ) (bytes : List ℕ) (apt : Open s t x kin f h o) (same : bytes ≡ siteCode s x) (op k : ℕ) (a : op ≡ getD bytes o 0) (b : op ≡ k) where
-  pub tried-named : (make : Resolved → Instr) (w j : ℕ) → w ≡ wordOf t (x .class) j → ((P : Program) (pool : ℕ → Resolved) → make (pool j) ≡ made P pool k (getD bytes (o + 1) 0) (getD bytes (o + 2) 0) o)
+  pub tried-named : steady k ≡ false → (make : Resolved → Instr) (w j : ℕ) → w ≡ wordOf t (x .class) j → ((P : Program) (pool : ℕ → Resolved) → make (pool j) ≡ made P pool k (getD bytes (o + 1) 0) (getD bytes (o + 2) 0) o)
       → Named make (lineage t (kin .at) (kin .count)) t u (x .stack) h o w v → Tried s t u x f true h o v
-  tried-named make w j e m q = go (eqb v 65) refl
+  tried-named st make w j e m q = go (eqb v 65) refl
     where
       n : ByName make s (lineage t (kin .at) (kin .count)) (framesOf t f) t u (x .stack) h o w v
       n = q .by s (framesOf t f)
 
       go : (z : Bool) → eqb v 65 ≡ z → Tried s t u x f true h o v
-      go true z = let y : v ≡ 65 = eqb-true v 65 z in record { on = λ d. absurd (d y); off = λ d. absurd (omega arith); kept = n .easy .kept }
+      go true z = let y : v ≡ 65 = eqb-true v 65 z in record { on = λ d. absurd (d y); off = λ d. absurd (omega arith); kept = n .easy .kept; same = λ d. absurd (d y) }
       go false z =
           tried-easy s t u x kin f h o (n .instr) v apt
           (subst (λ (l : List ℕ). DecodedAt s t (x .class) l o (n .instr)) same
@@ -265,7 +265,7 @@ module _ (s t u : List ℕ) (x : Site) (kin : Kin) (f : Rows) (h : Held) (o : �
                 n .refers (eqb-false v 65 z) ∙ ap (λ (c : ℕ). make (resolvedOf s c)) e ∙ m P (resolvedIn s t (x .class))
                 ∙ ap (λ (c : ℕ). made P (resolvedIn s t (x .class)) c (getD bytes (o + 1) 0) (getD bytes (o + 2) 0) o) (sym b ∙ a);
           }))
-          (n .plain) (n .hide) (n .easy)
+          (n .hide) (n .plain) (λ y. absurd (not-so (sym st ∙ ap steady (sym b ∙ a ∙ ap (λ (l : List ℕ). getD l o 0) same) ∙ y))) (n .easy)
 
 -- ---- arrays, and tests for null
 abbrev pub LoadsElement : List ℕ → List ℕ → Kin → ℕ → Held → ℕ → Type 0
@@ -340,11 +340,11 @@ pub record Leaves (L : Program) (t : List ℕ) (h : Held) (b : ℕ) (i : Leave) 
 pub leaves-none : (L : Program) (t : List ℕ) (h : Held) (b : ℕ) (i : Leave) (v : ℕ) → v ≡ 65 → Leaves L t h b i v
 leaves-none L t h b i v e = record { asks = λ z. absurd (z e); away = λ z. absurd (z e) }
 
-one-result : (b : ℕ) → (b ≡ 256 → ⊥) → resultOf b ≡ codeDesc b ∷ []
+pub one-result : (b : ℕ) → (b ≡ 256 → ⊥) → resultOf b ≡ codeDesc b ∷ []
 unfolding resultOf
 one-result b n = rw (ne-eqb b 256 n)
 
-no-result : (b : ℕ) → b ≡ 256 → resultOf b ≡ []
+pub no-result : (b : ℕ) → b ≡ 256 → resultOf b ≡ []
 unfolding resultOf
 no-result b e = rw (eq-eqb b 256 e)
 
@@ -408,13 +408,14 @@ module _ (s t : List ℕ) (x : Site) (kin : Kin) (f : Rows) (h : Held) (o : ℕ)
         let z : v ≡ 65 → ⊥ = λ q. omega arith in
         record {
           says = λ P M dt yt one.
-              line-says s t t x kin f h o (Leaving i) v apt d refl refl P M dt one (l .asks z (x .stack) o (ownFacts M) (dt .results ∙ sym r))
+              line-says s t t x kin f h o (Leaving i) v apt d refl P M dt one (ownFacts M) (own-told P M (Leaving i) (operandsOf t h) refl) (l .asks z (x .stack) o (ownFacts M) (dt .results ∙ sym r))
               (no-jump (lineage t (kin .at) (kin .count)) (framesOf t f) (instrAfter (ownFacts M) o (Leaving i) (held t h)) 0 refl);
-          leaves = λ P M dt yt one q. line-away s t t x kin f h o (Leaving i) v apt d refl refl P M dt one refl;
+          leaves = λ P M dt yt one q. line-away s t t x kin f h o (Leaving i) v apt d refl P M dt one refl;
           going = going-same h (apt .walking .depth);
           front = refl;
         };
     kept = λ z. refl;
+    same = λ z y. absurd (y (l .away z));
   }
     where
       d : DecodedAt s t (x .class) (siteCode s x) o (Leaving i)

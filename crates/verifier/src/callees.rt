@@ -60,13 +60,11 @@ fn callee_of(i: Instr) -> Callee
     }
 }
 
-// The number of the callee's entry, of n classes of the bundle; 1024 where it has none.
-fn entry_of(t: &[u8], n: usize, m: Callee) -> usize
+// The number of the entry of method j of class c, of n classes of the bundle; 1024 where it has none.
+pub fn entry_of(t: &[u8], n: usize, c: usize, j: usize) -> usize
     requires { ⌜ n ≤ 16 ⌝ }
-    ensures { λ r. ⌜ (r ≡ entryOf (now (t .entry)) n (m .owner) (m .index)) × (r ≤ 1024) ⌝ }
+    ensures { λ r. ⌜ (r ≡ entryOf (now (t .entry)) n c j) × (r ≤ 1024) ⌝ }
 {
-    let c = m.owner as usize;
-    let j = m.index as usize;
     if c < 11 {
         return 1024;
     }
@@ -174,7 +172,8 @@ pub fn known(s: &[u8], t: &mut [u8], x: Site, h: Held, i: Instr) -> Known
     requires { ⌜ Roomy (now t) h × (h .at + 72 ≤ 65256) × (65288 ≤ length (now t) / 4) × (x .classes ≤ 16) × (x .class < 16) × (x .method < 64) × (x .start ≤ x .end) × (x .end ≤ length (now s)) ⌝ }
     ensures { λ r. ⌜ Prepared (now (s .entry)) (now (t .entry)) (now (t .exit)) x h i r ⌝ }
 {
-    let k = entry_of(t, x.classes, callee_of(i));
+    let m = callee_of(i);
+    let k = entry_of(t, x.classes, m.owner as usize, m.index as usize);
     let back = back_of(t, 64 * x.class + x.method);
     let gives = back_of(t, k);
     let w = peek(t, h, count_of(t, k));

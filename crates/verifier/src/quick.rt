@@ -1,19 +1,16 @@
 // Frequent instructions by their opcodes, where nothing is refused: no frame stands at the offset, and the handlers have been asked. The
 // answer is the stack's depth after; 64 where control does not go on, and 65 where nothing was done, for the walk to find out why.
 ghost use mathlib.Core.Path.{_≡_};
-ghost use mathlib.Core.Bool.{Bool, true, false};
-ghost use Prim.Native.Nat.{_+_, _*_, _≤_};
+ghost use mathlib.Core.Bool.{true, false};
+ghost use Prim.Native.Nat.{_+_, _≤_};
 ghost use lib.ListN.{getD};
 ghost use Rattle.rules.specs.TypeWords.{typeOf};
 ghost use Rattle.rules.specs.Slots.{Roomy};
 ghost use Rattle.rules.specs.Sites.{siteCode};
-ghost use Rattle.rules.specs.ResolvedWords.{wordOf};
 ghost use Rattle.rules.specs.FrameRows.{Laid};
 ghost use Rattle.verifier.specs.QuickNames.{Idles, Pops};
-ghost use Rattle.verifier.specs.Quick.{Pushed, LoadsInt, LoadsReference, StoresInt, StoresReference, Adds, Doubles, Numbers, Goes, OneInt, TwoInts, Tests, Compares, Away, Open, Tried, targetAt};
+ghost use Rattle.verifier.specs.Quick.{Pushed, LoadsInt, LoadsReference, StoresInt, StoresReference, Adds, Doubles, Numbers, Goes, OneInt, TwoInts, Tests, Compares, Away, Open, Tried, steady, targetAt};
 use crate::quick_names::names;
-use crate::quick_names::references;
-use crate::quick_names::returns;
 use rules::decode;
 use rules::decode::Bytes;
 use rules::frames::Rows;
@@ -30,6 +27,25 @@ use rules::slots::set_local;
 use rules::types;
 use rules::types::Kin;
 use rules::types::Ty;
+
+// Opcodes that leave the locals as they are, of those without a name.
+pub fn keeps_locals(op: usize) -> bool
+    ensures { λ r. ⌜ r ≡ steady op ⌝ }
+{
+    if op < 0x12 {
+        return true;
+    }
+    if op < 0x15 {
+        return false;
+    }
+    if op < 0x36 {
+        return true;
+    }
+    if op < 0x57 {
+        return false;
+    }
+    op < 0xa8
+}
 
 // A type comes on the stack, where there is room.
 pub fn push(t: &mut [u8], h: Held, most: usize, w: Ty) -> usize
@@ -281,7 +297,7 @@ fn constants(
         0x08 => push(t, h, x.stack, Ty::int()),
         0x10 => push(t, h, x.stack, Ty::int()),
         0x11 => push(t, h, x.stack, Ty::int()),
-        _ => 65,
+        _ => stores(s, t, x, kin, f, h, code, o, op),
     }
 }
 
@@ -311,7 +327,7 @@ fn loads(
         0x2b => load_reference(t, h, x.stack, 1),
         0x2c => load_reference(t, h, x.stack, 2),
         0x2d => load_reference(t, h, x.stack, 3),
-        _ => 65,
+        _ => constants(s, t, x, kin, f, h, code, o, op),
     }
 }
 
@@ -341,7 +357,7 @@ fn stores(
         0x4c => store_reference(t, h, x.stack, 1),
         0x4d => store_reference(t, h, x.stack, 2),
         0x4e => store_reference(t, h, x.stack, 3),
-        _ => 65,
+        _ => arithmetic(s, t, x, kin, f, h, code, o, op),
     }
 }
 
@@ -376,7 +392,7 @@ fn arithmetic(
         0x80 => numbers(t, h, x.stack),
         0x82 => numbers(t, h, x.stack),
         0x84 => increment(t, h, x.stack, first(code, o) as u16),
-        _ => 65,
+        _ => branches(s, t, x, kin, f, h, code, o, op),
     }
 }
 
@@ -409,11 +425,11 @@ fn branches(
         0xa3 => compare(t, kin, f, h, x.stack, target(code, o)),
         0xa4 => compare(t, kin, f, h, x.stack, target(code, o)),
         0xa7 => goto(t, kin, f, h, x.stack, target(code, o)),
-        _ => 65,
+        _ => names(s, t, x, kin, f, h, code, o, op),
     }
 }
 
-// The instruction at o. The groups are listed here so that one jump by the opcode finds both group and line.
+// The instruction at o. Each list ends in the next one, so that one jump by the opcode finds the line.
 pub fn quick(
     s: &[u8],
     t: &mut [u8],
@@ -428,60 +444,5 @@ pub fn quick(
     ensures { λ r. ⌜ Tried (now (s .entry)) (now (t .entry)) (now (t .exit)) x f true h o r ⌝ }
 {
     let op = kit::byte(code, o as usize);
-    match op {
-        0x01 | 0x02 | 0x03 | 0x04 | 0x05 | 0x06 | 0x07 | 0x08 | 0x10 | 0x11 => constants(
-            s,
-            t,
-            x,
-            kin,
-            f,
-            h,
-            code,
-            o,
-            op,
-        ),
-        0x15 | 0x19 | 0x1a | 0x1b | 0x1c | 0x1d | 0x2a | 0x2b | 0x2c | 0x2d => loads(
-            s,
-            t,
-            x,
-            kin,
-            f,
-            h,
-            code,
-            o,
-            op,
-        ),
-        0x36 | 0x3a | 0x3b | 0x3c | 0x3d | 0x3e | 0x4b | 0x4c | 0x4d | 0x4e => stores(
-            s,
-            t,
-            x,
-            kin,
-            f,
-            h,
-            code,
-            o,
-            op,
-        ),
-        0x00
-        | 0x57
-        | 0x59
-        | 0x60
-        | 0x64
-        | 0x68
-        | 0x6c
-        | 0x70
-        | 0x78
-        | 0x7a
-        | 0x7c
-        | 0x7e
-        | 0x80
-        | 0x82
-        | 0x84 => arithmetic(s, t, x, kin, f, h, code, o, op),
-        0x99 | 0x9a | 0x9b | 0x9c | 0x9d | 0x9e | 0x9f | 0xa0 | 0xa1 | 0xa2 | 0xa3 | 0xa4 | 0xa7 =>
-            branches(s, t, x, kin, f, h, code, o, op),
-        0x12 | 0xb4 | 0xb5 | 0xbb => names(s, t, x, kin, f, h, code, o, op),
-        0x2e | 0x4f | 0xbe | 0xc6 | 0xc7 => references(s, t, x, kin, f, h, code, o, op),
-        0xac | 0xb0 | 0xb1 => returns(s, t, x, kin, f, h, code, o, op),
-        _ => 65,
-    }
+    loads(s, t, x, kin, f, h, code, o, op)
 }

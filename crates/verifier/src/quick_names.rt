@@ -19,6 +19,7 @@ use crate::quick::branch;
 use crate::quick::one_int;
 use crate::quick::push;
 use crate::quick::target;
+use crate::quick_calls::calls;
 use reader::types::result_at;
 use rules::codes::described;
 use rules::decode;
@@ -35,7 +36,7 @@ use rules::types::Ty;
 use rules::types::same_or_assignable;
 
 // The k-th operand may stand where w is asked.
-fn operand_fits(t: &[u8], kin: Kin, h: Held, k: usize, w: Ty) -> bool
+pub fn operand_fits(t: &[u8], kin: Kin, h: Held, k: usize, w: Ty) -> bool
     requires { ⌜ Placed (now t) h ⌝ }
     ensures { λ r. ⌜ r ≡ fits (lineage (now (t .entry)) (kin .at) (kin .count)) (operand k (operandsOf (now (t .entry)) h)) (typeOf (w .word)) ⌝ }
 {
@@ -133,19 +134,35 @@ pub fn names(
     requires { ⌜ Open (now s) (now t) x kin f h o × (now code ≡ siteCode (now s) x) × (op ≡ getD (now code) o 0) ⌝ }
     ensures { λ r. ⌜ Tried (now (s .entry)) (now (t .entry)) (now (t .exit)) x f true h o r ⌝ }
 {
-    let c = x.class;
-    let at = o as usize;
     match op {
         0x12 => load_number(
             t,
             h,
             x.stack,
-            decode::named_word(t, c, kit::byte(code, at + 1)),
+            decode::named_word(t, x.class, kit::byte(code, o as usize + 1)),
         ),
-        0xb4 => get_field(t, kin, h, x.stack, decode::named_at(t, c, code, at)),
-        0xb5 => put_field(t, kin, h, x.stack, decode::named_at(t, c, code, at)),
-        0xbb => new_object(t, h, x.stack, o, decode::named_at(t, c, code, at)),
-        _ => 65,
+        0xb4 => get_field(
+            t,
+            kin,
+            h,
+            x.stack,
+            decode::named_at(t, x.class, code, o as usize),
+        ),
+        0xb5 => put_field(
+            t,
+            kin,
+            h,
+            x.stack,
+            decode::named_at(t, x.class, code, o as usize),
+        ),
+        0xbb => new_object(
+            t,
+            h,
+            x.stack,
+            o,
+            decode::named_at(t, x.class, code, o as usize),
+        ),
+        _ => references(s, t, x, kin, f, h, code, o, op),
     }
 }
 
@@ -225,7 +242,7 @@ fn test_null(t: &[u8], kin: Kin, f: Rows, h: Held, most: usize, o: u16) -> usize
     branch(t, kin, f, h, most, 1, o)
 }
 
-pub fn references(
+fn references(
     s: &[u8],
     t: &mut [u8],
     x: Site,
@@ -245,7 +262,7 @@ pub fn references(
         0xbe => measure(t, h, x.stack),
         0xc6 => test_null(t, kin, f, h, x.stack, target(code, o)),
         0xc7 => test_null(t, kin, f, h, x.stack, target(code, o)),
-        _ => 65,
+        _ => returns(s, t, x, kin, f, h, code, o, op),
     }
 }
 
@@ -302,9 +319,9 @@ fn leave_bare(h: Held, back: usize) -> usize
     65
 }
 
-pub fn returns(
+fn returns(
     s: &[u8],
-    t: &[u8],
+    t: &mut [u8],
     x: Site,
     kin: Kin,
     f: Rows,
@@ -314,13 +331,12 @@ pub fn returns(
     op: usize,
 ) -> usize
     requires { ⌜ Open (now s) (now t) x kin f h o × (now code ≡ siteCode (now s) x) × (op ≡ getD (now code) o 0) ⌝ }
-    ensures { λ r. ⌜ Tried (now (s .entry)) (now (t .entry)) (now (t .entry)) x f true h o r ⌝ }
+    ensures { λ r. ⌜ Tried (now (s .entry)) (now (t .entry)) (now (t .exit)) x f true h o r ⌝ }
 {
-    let back = result_at(t, 64 * x.class + x.method);
     match op {
-        0xac => leave_int(t, h, back),
-        0xb0 => leave_reference(t, kin, h, back),
-        0xb1 => leave_bare(h, back),
-        _ => 65,
+        0xac => leave_int(t, h, result_at(t, 64 * x.class + x.method)),
+        0xb0 => leave_reference(t, kin, h, result_at(t, 64 * x.class + x.method)),
+        0xb1 => leave_bare(h, result_at(t, 64 * x.class + x.method)),
+        _ => calls(s, t, x, kin, f, h, code, o, op),
     }
 }

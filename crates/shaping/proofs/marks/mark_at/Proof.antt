@@ -1,4 +1,3 @@
-use native.Mathlib.Omega.{arith}
 use Rattle.shaping.specs.Asks.{quick-good, quick-bad}
 use borrow.Author.Needs.{needs}
 use Rattle.shaping.proofs.marks.mark_at.Statement.{statement}
@@ -6,21 +5,21 @@ use Rattle.shaping.proofs.marks.mark_at.Tie as tie
 use Rattle.shaping.proofs.marks.mark_at.Reads as reads
 use Rattle.shaping.proofs.marks.mark_at.Lts as lts
 use Rattle.kit.proofs.byte.Reads as byte-reads
-use Rattle.shaping.proofs.asks.form_by.Reads as form-by-reads
 use Rattle.shaping.proofs.asks.kind.Reads as kind-reads
+use Rattle.shaping.proofs.asks.needs.Reads as needs-reads
 use Rattle.shaping.proofs.marks.decoded_mark.Reads as decoded-mark-reads
 
 byte-requires : tie.Need-byte-requires
 byte-requires c κs = search needs
 
 kind-requires : tie.Need-kind-requires
-kind-requires c κs = c .byte .ensures .1
+kind-requires c κs = search needs
 
 decoded-mark-requires : tie.Need-decoded-mark-requires
 decoded-mark-requires c κs = search needs
 
 returns : tie.Need-returns
-returns c = c .decoded-mark .ensures
+returns c = search needs
 
 add-byte : tie.Need-add-byte
 add-byte c = search needs
@@ -28,14 +27,14 @@ add-byte c = search needs
 byte-requires-2 : tie.Need-byte-requires-2
 byte-requires-2 c κs = search needs
 
-form-by-requires : tie.Need-form-by-requires
-form-by-requires c κs = c .before .before .before .byte .ensures .1
+needs-requires : tie.Need-needs-requires
+needs-requires c κs = search needs
 
 returns-2 : tie.Need-returns-2
-returns-2 c = quick-good _ _ _ _ _ _ _ (c .before .before .before .before .before .byte .ensures .0) (c .before .before .before .before .before .byte .ensures .1) (c .before .before .before .before .kind .ensures) _ (omega (arith, c .before .before .before .if1 .left)) _ _ (c .before .before .byte2 .ensures .0) (c .before .form-by .ensures) (c .if2 .taken)
+returns-2 c = quick-good _ _ _ _ _ _ _ (c .before .before .before .before .before .byte .ensures .0) (c .before .before .before .before .before .byte .ensures .1) (c .before .before .before .before .kind .ensures) _ (c .before .before .before .if1 .left) _ _ (c .before .before .byte2 .ensures .0) (c .before .needs .ensures) (c .if2 .taken)
 
 returns-3 : tie.Need-returns-3
-returns-3 c = quick-bad _ _ _ _ _ _ _ (c .before .before .before .before .before .byte .ensures .0) (c .before .before .before .before .before .byte .ensures .1) (c .before .before .before .before .kind .ensures) _ (omega (arith, c .before .before .before .if1 .left)) _ _ (c .before .before .byte2 .ensures .0) (c .before .form-by .ensures) (c .if2 .left)
+returns-3 c = quick-bad _ _ _ _ _ _ _ (c .before .before .before .before .before .byte .ensures .0) (c .before .before .before .before .before .byte .ensures .1) (c .before .before .before .before .kind .ensures) _ (c .before .before .before .if1 .left) _ _ (c .before .before .byte2 .ensures .0) (c .before .needs .ensures) (c .if2 .left)
 
 pub mark-at-spec : {M : Type 1} → statement M
 mark-at-spec =
@@ -47,6 +46,6 @@ mark-at-spec =
     returns
     add-byte
     byte-requires-2
-    form-by-requires
+    needs-requires
     returns-2
     returns-3)

@@ -1,11 +1,11 @@
-use Rattle.shaping.specs.Passing.{mark-asked, typable}
+use Rattle.shaping.specs.Passing.{restore-asked, typable}
 use borrow.Author.Needs.{needs}
 use Rattle.shaping.proofs.phases.typable.Statement.{statement}
 use Rattle.shaping.proofs.phases.typable.Tie as tie
 use Rattle.shaping.proofs.phases.typable.Reads as reads
 use Rattle.shaping.proofs.phases.typable.Lts as lts
 use Rattle.shaping.proofs.locate.site.Reads as site-reads
-use Rattle.shaping.proofs.marks.mark.Reads as mark-reads
+use Rattle.shaping.proofs.marks.restore.Reads as restore-reads
 
 -- src/phases.rt:88:29
 sub-site : tie.Need-sub-site
@@ -24,8 +24,8 @@ site-requires : tie.Need-site-requires
 site-requires c κs = search needs
 
 -- src/phases.rt:89:5
-mark-requires : tie.Need-mark-requires
-mark-requires c κs = mark-asked _ _ _ _ _ _ (c .before .site .ensures .0) (c .before .before .before .before .before .before .pre .3) (c .before .before .before .before .before .before .pre .0 .long)
+restore-requires : tie.Need-restore-requires
+restore-requires c κs = restore-asked _ _ _ _ _ _ (c .before .site .ensures .0) (c .before .before .before .before .before .before .pre .3) (c .before .before .before .before .before .before .pre .0 .long)
 
 -- src/phases.rt:84:1
 same-length : tie.Need-same-length
@@ -33,7 +33,7 @@ same-length c = search needs
 
 -- src/phases.rt:84:1
 returns : tie.Need-returns
-returns c = typable _ _ _ _ _ _ (c .before .before .before .before .site .ensures .0) (c .before .before .before .before .before .before .before .before .before .pre .3) _ _ (c .before .before .before .before .before .before .before .before .before .pre .0 .long) (c .before .before .before .before .site .ensures .1) (c .before .before .mark .ensures)
+returns c = typable _ _ _ _ _ _ (c .before .before .before .before .site .ensures .0) (c .before .before .before .before .before .before .before .before .before .pre .3) _ (c .before .before .before .before .site .ensures .1) (c .before .before .restore .ensures)
 
 pub typable-spec : {M : Type 1} → statement M
 typable-spec =
@@ -43,6 +43,6 @@ typable-spec =
     part-site-start
     part-site-end
     site-requires
-    mark-requires
+    restore-requires
     same-length
     returns)

@@ -36,21 +36,21 @@ class-type-requires c κs = (c .before .before .before .before .before .pre .0, 
 
 returns : tie.Need-returns
 unfolding typeAs
-returns c = (class-bad (c .before .before .before .before .before .before .before .before .args .s .now) (c .before .before .before .before .before .before .before .before .args .n) (c .before .before .before .before .before .before .before .before .args .t .now) (c .before .before .before .before .before .before .before .before .pre .0) _ _ _ (c .before .before .before .before .before .text-in .ensures) (c .before .before .class-type .result) (c .before .before .class-type .ensures .1) (c .before .before .class-type .ensures .0) (c .if1 .taken), omega arith, λ z. omega arith)
+returns c = (class-bad (c .before .before .before .before .before .before .before .before .args .s .now) (c .before .before .before .before .before .before .before .before .args .n) (c .before .before .before .before .before .before .before .before .args .t .now) (c .before .before .before .before .before .before .before .before .pre .0) _ _ _ (c .before .before .before .before .before .text-in .ensures) (c .before .before .class-type .result) (c .before .before .class-type .ensures .1) (c .before .before .class-type .ensures .0) (c .if1 .taken), omega arith)
 
 returns-2 : tie.Need-returns-2
 unfolding typeAs
-returns-2 c = (class-int (c .before .before .before .before .before .before .before .before .before .before .args .s .now) (c .before .before .before .before .before .before .before .before .before .before .args .n) (c .before .before .before .before .before .before .before .before .before .before .args .t .now) (c .before .before .before .before .before .before .before .before .before .before .pre .0) _ _ _ (c .before .before .before .before .before .before .before .text-in .ensures) (c .before .before .before .before .class-type .result) (c .before .before .before .before .class-type .ensures .1) (c .before .before .before .before .class-type .ensures .0) (c .before .before .if1 .left) (c .if2 .taken), omega arith, λ z. omega arith)
+returns-2 c = (class-int (c .before .before .before .before .before .before .before .before .before .before .args .s .now) (c .before .before .before .before .before .before .before .before .before .before .args .n) (c .before .before .before .before .before .before .before .before .before .before .args .t .now) (c .before .before .before .before .before .before .before .before .before .before .pre .0) _ _ _ (c .before .before .before .before .before .before .before .text-in .ensures) (c .before .before .before .before .class-type .result) (c .before .before .before .before .class-type .ensures .1) (c .before .before .before .before .class-type .ensures .0) (c .before .before .if1 .left) (c .if2 .taken), omega arith)
 
 is-known-requires : tie.Need-is-known-requires
 is-known-requires c κs = search needs
 
 returns-3 : tie.Need-returns-3
-returns-3 c = (class-known (c .before .before .before .before .before .before .before .before .before .before .before .before .args .s .now) (c .before .before .before .before .before .before .before .before .before .before .before .before .args .n) (c .before .before .before .before .before .before .before .before .before .before .before .before .args .t .now) (c .before .before .before .before .before .before .before .before .before .before .before .before .pre .0) _ _ _ (c .before .before .before .before .before .before .before .before .before .text-in .ensures) (c .before .before .before .before .before .before .class-type .result) (c .before .before .before .before .before .before .class-type .ensures .1) (c .before .before .before .before .before .before .class-type .ensures .0) (c .before .before .before .before .if1 .left) (c .before .before .if2 .left) _ (c .before .is-known .ensures) (c .if3 .taken), c .before .before .before .before .before .before .class-type .ensures .1, c .before .before .if2 .left)
+returns-3 c = (class-known (c .before .before .before .before .before .before .before .before .before .before .before .before .args .s .now) (c .before .before .before .before .before .before .before .before .before .before .before .before .args .n) (c .before .before .before .before .before .before .before .before .before .before .before .before .args .t .now) (c .before .before .before .before .before .before .before .before .before .before .before .before .pre .0) _ _ _ (c .before .before .before .before .before .before .before .before .before .text-in .ensures) (c .before .before .before .before .before .before .class-type .result) (c .before .before .before .before .before .before .class-type .ensures .1) (c .before .before .before .before .before .before .class-type .ensures .0) (c .before .before .before .before .if1 .left) (c .before .before .if2 .left) _ (c .before .is-known .ensures) (c .if3 .taken), c .before .before .before .before .before .before .class-type .ensures .1)
 
 returns-4 : tie.Need-returns-4
 unfolding typeAs
-returns-4 c = (class-unknown (c .before .before .before .before .before .before .before .before .before .before .before .before .args .s .now) (c .before .before .before .before .before .before .before .before .before .before .before .before .args .n) (c .before .before .before .before .before .before .before .before .before .before .before .before .args .t .now) (c .before .before .before .before .before .before .before .before .before .before .before .before .pre .0) _ _ _ (c .before .before .before .before .before .before .before .before .before .text-in .ensures) (c .before .before .before .before .before .before .class-type .result) (c .before .before .before .before .before .before .class-type .ensures .1) (c .before .before .before .before .before .before .class-type .ensures .0) (c .before .before .before .before .if1 .left) (c .before .before .if2 .left) _ (c .before .is-known .ensures) (c .if3 .left), omega arith, λ z. omega arith)
+returns-4 c = (class-unknown (c .before .before .before .before .before .before .before .before .before .before .before .before .args .s .now) (c .before .before .before .before .before .before .before .before .before .before .before .before .args .n) (c .before .before .before .before .before .before .before .before .before .before .before .before .args .t .now) (c .before .before .before .before .before .before .before .before .before .before .before .before .pre .0) _ _ _ (c .before .before .before .before .before .before .before .before .before .text-in .ensures) (c .before .before .before .before .before .before .class-type .result) (c .before .before .before .before .before .before .class-type .ensures .1) (c .before .before .before .before .before .before .class-type .ensures .0) (c .before .before .before .before .if1 .left) (c .before .before .if2 .left) _ (c .before .is-known .ensures) (c .if3 .left), omega arith)
 
 pub class-code-spec : {M : Type 1} → statement M
 class-code-spec =

@@ -1,6 +1,6 @@
-use native.Mathlib.Omega.{arith}
 use Rattle.shaping.specs.Kept.{bundle-size, prepared-after}
-use Rattle.shaping.specs.Resolving.{parents-same, limited-same, printed-same, blank-still}
+use Rattle.shaping.specs.Resolving.{around-both, tables-same, limited-same, filled-blank, filled-next, filled-all}
+use native.Mathlib.Omega.{arith}
 use borrow.Author.Needs.{needs}
 use Rattle.shaping.proofs.resolve.prepare.Statement.{statement}
 use Rattle.shaping.proofs.resolve.prepare.Tie as tie
@@ -13,13 +13,18 @@ clear-words-requires : tie.Need-clear-words-requires
 clear-words-requires c κs = (c .before .before .before .pre .1 .most, c .before .before .before .pre .0)
 
 entries-requires : tie.Need-entries-requires
-entries-requires c κs = let h = c .before .before .before .before .before .before .before .pre .1 in let x = c .before .before .before .clear-words .ensures in (bundle-size (c .before .before .before .before .before .before .before .args .s .now) (c .before .before .before .before .before .before .before .args .n) (c .before .before .before .before .before .before .before .args .t .now) h, h .most, omega (arith, x .long, c .before .before .before .before .before .before .before .pre .0), parents-same _ _ (c .before .before .before .before .before .before .before .args .t .now) _ (h .most) (x .front) (h .parents), limited-same (c .before .before .before .before .before .before .before .args .s .now) _ (c .before .before .before .before .before .before .before .args .t .now) _ (h .most) (x .front) (h .limited), printed-same _ _ (c .before .before .before .before .before .before .before .args .t .now) _ (h .most) (x .front) (x .back) (x .long) (c .before .before .before .before .before .before .before .pre .2), blank-still _ _ _ x)
+entries-requires c κs = let h = c .before .before .before .before .before .before .before .pre .1 in let a = (c .before .before .before .clear-words .ensures .0) in let x = tables-same (c .before .before .before .before .before .before .before .args .s .now) (c .before .before .before .before .before .before .before .args .n) (c .before .before .before .before .before .before .before .args .t .now) _ (h .most) a (h .parents) (h .limited) (c .before .before .before .before .before .before .before .pre .2) in (bundle-size (c .before .before .before .before .before .before .before .args .s .now) (c .before .before .before .before .before .before .before .args .n) (c .before .before .before .before .before .before .before .args .t .now) h, h .most, omega (arith, a .long, c .before .before .before .before .before .before .before .pre .0), x .0, x .1, x .2, filled-blank _ _ _ (h .most) (c .before .before .before .clear-words .ensures .1))
+
+entries-requires-2 : tie.Need-entries-requires-2
+entries-requires-2 c κs = let h = c .before .before .before .before .before .before .before .before .before .before .before .pre .1 in let a = (around-both _ _ _ (c .before .before .before .before .before .before .before .clear-words .ensures .0) (c .before .before .before .entries .ensures .0)) in let x = tables-same (c .before .before .before .before .before .before .before .before .before .before .before .args .s .now) (c .before .before .before .before .before .before .before .before .before .before .before .args .n) (c .before .before .before .before .before .before .before .before .before .before .before .args .t .now) _ (h .most) a (h .parents) (h .limited) (c .before .before .before .before .before .before .before .before .before .before .before .pre .2) in (bundle-size (c .before .before .before .before .before .before .before .before .before .before .before .args .s .now) (c .before .before .before .before .before .before .before .before .before .before .before .args .n) (c .before .before .before .before .before .before .before .before .before .before .before .args .t .now) h, h .most, omega (arith, a .long, c .before .before .before .before .before .before .before .before .before .before .before .pre .0), x .0, x .1, x .2, filled-next _ _ _ (h .most) (c .before .before .before .entries .ensures .1))
 
 same-length : tie.Need-same-length
 same-length c = search needs
 
 returns : tie.Need-returns
-returns c = prepared-after _ _ _ _ _ (c .before .before .before .before .before .before .before .before .before .before .pre .1) (c .before .before .before .before .before .before .clear-words .ensures) (c .before .before .entries .ensures)
+returns c = let h = c .before .before .before .before .before .before .before .before .before .before .before .before .before .before .pre .1 in let a = (around-both _ _ _ (around-both _ _ _ (c .before .before .before .before .before .before .before .before .before .before .clear-words .ensures .0) (c .before .before .before .before .before .before .entries .ensures .0)) (c .before .before .entries2 .ensures .0)) in prepared-after _ _ (c .before .before .before .before .before .before .before .before .before .before .before .before .before .before .args .t .now) _ h a (filled-all (c .before .before .before .before .before .before .before .before .before .before .before .before .before .before .args .s .now) (c .before .before .before .before .before .before .before .before .before .before .before .before .before .before .args .n) _ (h .most) (limited-same (c .before .before .before .before .before .before .before .before .before .before .before .before .before .before .args .s .now) _ (c .before .before .before .before .before .before .before .before .before .before .before .before .before .before .args .t .now) _ (h .most) (a .front) (h .limited)) (c .before .before .entries2 .ensures .1))
 
 pub prepare-spec : {M : Type 1} → statement M
-prepare-spec = tie.close (tie.spec clear-words-requires entries-requires same-length returns)
+prepare-spec =
+    tie.close
+    (tie.spec clear-words-requires entries-requires entries-requires-2 same-length returns)

@@ -1,5 +1,4 @@
-use native.Mathlib.Omega.{arith}
-use Rattle.shaping.specs.Asks.{quick-none, quick-leads, quick-far}
+use Rattle.shaping.specs.Asks.{quick-none, quick-leads, quick-far, quick-named}
 use borrow.Author.Needs.{needs}
 use Rattle.shaping.proofs.shape.fault_at.Statement.{statement}
 use Rattle.shaping.proofs.shape.fault_at.Tie as tie
@@ -9,6 +8,7 @@ use Rattle.kit.proofs.byte.Reads as byte-reads
 use Rattle.shaping.proofs.asks.kind.Reads as kind-reads
 use Rattle.shaping.proofs.marks.is_start.Reads as is-start-reads
 use Rattle.shaping.proofs.shape.decoded_fault.Reads as decoded-fault-reads
+use Rattle.shaping.proofs.shape.name_fault.Reads as name-fault-reads
 use Rattle.shaping.proofs.shape.target_at.Reads as target-at-reads
 
 byte-requires : tie.Need-byte-requires
@@ -36,10 +36,16 @@ returns-3 : tie.Need-returns-3
 returns-3 c = quick-far _ _ _ _ _ _ _ (c .before .before .before .before .before .before .byte .ensures .0) (c .before .before .before .before .before .before .byte .ensures .1) (c .before .before .before .before .before .kind .ensures) _ (c .before .before .before .if2 .taken) _ (c .before .before .target-at .ensures) _ (c .before .is-start .ensures) (c .if3 .left)
 
 decoded-fault-requires : tie.Need-decoded-fault-requires
-decoded-fault-requires c κs = c .before .before .before .before .before .before .before .pre .0
+decoded-fault-requires c κs = c .before .before .before .before .before .before .before .before .pre .0
 
 returns-4 : tie.Need-returns-4
 returns-4 c = c .decoded-fault .ensures
+
+name-fault-requires : tie.Need-name-fault-requires
+name-fault-requires c κs = c .before .before .before .before .before .before .before .before .pre .1
+
+returns-5 : tie.Need-returns-5
+returns-5 c = quick-named _ _ _ _ _ _ _ (c .before .before .before .before .before .byte .ensures .0) (c .before .before .before .before .before .byte .ensures .1) (c .before .before .before .before .kind .ensures) _ (c .before .before .before .if1 .left) (c .before .before .if2 .left) (c .before .if4 .left) _ (c .name-fault .ensures)
 
 pub fault-at-spec : {M : Type 1} → statement M
 fault-at-spec =
@@ -54,4 +60,6 @@ fault-at-spec =
     returns-2
     returns-3
     decoded-fault-requires
-    returns-4)
+    returns-4
+    name-fault-requires
+    returns-5)

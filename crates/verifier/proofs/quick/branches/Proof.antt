@@ -1,18 +1,11 @@
-use mathlib.Core.Path.{refl, sym, _∙_}
-use mathlib.Core.List.{[], _∷_}
-use Prim.Native.Nat.{_+_, _*_}
-use lib.ListN.{getD}
+use mathlib.Core.Path.{refl}
 use borrow.Author.Needs.{needs}
-use borrow.Author.Tests.{not-false}
-use Rattle.rules.specs.Opcodes.{rows, rowIn, rowOf, extend}
+use Rattle.rules.specs.Opcodes.{rows, rowIn, rowOf}
 use Rattle.rules.specs.Decoding.{made}
 use Rattle.rules.specs.Known.{hides}
-use Rattle.rules.specs.declared.instruction.Plain.the-variants.{Aconstnull, Iconst, Ibin, Idiv}
 use Rattle.rules.specs.declared.instruction.Branch.the-variants.{Goto, Ifint, Ificmp}
-use Rattle.rules.specs.declared.instruction.Local.the-variants.{Iload, Aload, Istore, Astore, Iinc}
-use Rattle.rules.specs.declared.instruction.Stack.the-variants.{Dup}
-use Rattle.rules.specs.declared.instruction.Instr.the-variants.{Simple, Jump, OnLocal, OnStack}
-use Rattle.verifier.specs.Quick.{tried-arm, tried-none, pushes-int, pushes-null}
+use Rattle.rules.specs.declared.instruction.Instr.the-variants.{Jump}
+use Rattle.verifier.specs.Quick.{tried-arm, steady}
 use Rattle.verifier.proofs.quick.branches.Statement.{statement}
 use Rattle.verifier.proofs.quick.branches.Tie as tie
 
@@ -94,99 +87,105 @@ target-requires-13 c κs = search needs
 goto-requires : tie.Need-goto-requires
 goto-requires c κs = search needs
 
+names-requires : tie.Need-names-requires
+names-requires c κs = search needs
+
 same-length : tie.Need-same-length
 same-length c = search needs
 
 returns : tie.Need-returns
-unfolding made rowOf rowIn rows hides
-returns c = tried-arm _ _ _ _ _ _ _ _ _ _ (c .before .before .before .before .before .before .before .pre .0) (c .before .before .before .before .before .before .before .pre .1) _ 153 (c .before .before .before .before .before .before .before .pre .2) (c .before .before .before .match .keys1) (Jump (Ifint 0 _)) refl refl (λ P pool. rw (c .before .target .ensures)) (c .test .ensures _ 0)
+unfolding made rowOf rowIn rows steady hides
+returns c = tried-arm _ _ _ _ _ _ _ _ _ _ (c .before .before .before .before .before .before .before .pre .0) (c .before .before .before .before .before .before .before .pre .1) _ 153 (c .before .before .before .before .before .before .before .pre .2) (c .before .before .before .match .keys1) (Jump (Ifint 0 _)) refl refl refl (λ P pool. rw (c .before .target .ensures)) (c .test .ensures _ 0)
 
 same-length-2 : tie.Need-same-length-2
 same-length-2 c = search needs
 
 returns-2 : tie.Need-returns-2
-unfolding made rowOf rowIn rows hides
-returns-2 c = tried-arm _ _ _ _ _ _ _ _ _ _ (c .before .before .before .before .before .before .before .pre .0) (c .before .before .before .before .before .before .before .pre .1) _ 154 (c .before .before .before .before .before .before .before .pre .2) (c .before .before .before .match .keys2) (Jump (Ifint 1 _)) refl refl (λ P pool. rw (c .before .target2 .ensures)) (c .test2 .ensures _ 1)
+unfolding made rowOf rowIn rows steady hides
+returns-2 c = tried-arm _ _ _ _ _ _ _ _ _ _ (c .before .before .before .before .before .before .before .pre .0) (c .before .before .before .before .before .before .before .pre .1) _ 154 (c .before .before .before .before .before .before .before .pre .2) (c .before .before .before .match .keys2) (Jump (Ifint 1 _)) refl refl refl (λ P pool. rw (c .before .target2 .ensures)) (c .test2 .ensures _ 1)
 
 same-length-3 : tie.Need-same-length-3
 same-length-3 c = search needs
 
 returns-3 : tie.Need-returns-3
-unfolding made rowOf rowIn rows hides
-returns-3 c = tried-arm _ _ _ _ _ _ _ _ _ _ (c .before .before .before .before .before .before .before .pre .0) (c .before .before .before .before .before .before .before .pre .1) _ 155 (c .before .before .before .before .before .before .before .pre .2) (c .before .before .before .match .keys3) (Jump (Ifint 2 _)) refl refl (λ P pool. rw (c .before .target3 .ensures)) (c .test3 .ensures _ 2)
+unfolding made rowOf rowIn rows steady hides
+returns-3 c = tried-arm _ _ _ _ _ _ _ _ _ _ (c .before .before .before .before .before .before .before .pre .0) (c .before .before .before .before .before .before .before .pre .1) _ 155 (c .before .before .before .before .before .before .before .pre .2) (c .before .before .before .match .keys3) (Jump (Ifint 2 _)) refl refl refl (λ P pool. rw (c .before .target3 .ensures)) (c .test3 .ensures _ 2)
 
 same-length-4 : tie.Need-same-length-4
 same-length-4 c = search needs
 
 returns-4 : tie.Need-returns-4
-unfolding made rowOf rowIn rows hides
-returns-4 c = tried-arm _ _ _ _ _ _ _ _ _ _ (c .before .before .before .before .before .before .before .pre .0) (c .before .before .before .before .before .before .before .pre .1) _ 156 (c .before .before .before .before .before .before .before .pre .2) (c .before .before .before .match .keys4) (Jump (Ifint 3 _)) refl refl (λ P pool. rw (c .before .target4 .ensures)) (c .test4 .ensures _ 3)
+unfolding made rowOf rowIn rows steady hides
+returns-4 c = tried-arm _ _ _ _ _ _ _ _ _ _ (c .before .before .before .before .before .before .before .pre .0) (c .before .before .before .before .before .before .before .pre .1) _ 156 (c .before .before .before .before .before .before .before .pre .2) (c .before .before .before .match .keys4) (Jump (Ifint 3 _)) refl refl refl (λ P pool. rw (c .before .target4 .ensures)) (c .test4 .ensures _ 3)
 
 same-length-5 : tie.Need-same-length-5
 same-length-5 c = search needs
 
 returns-5 : tie.Need-returns-5
-unfolding made rowOf rowIn rows hides
-returns-5 c = tried-arm _ _ _ _ _ _ _ _ _ _ (c .before .before .before .before .before .before .before .pre .0) (c .before .before .before .before .before .before .before .pre .1) _ 157 (c .before .before .before .before .before .before .before .pre .2) (c .before .before .before .match .keys5) (Jump (Ifint 4 _)) refl refl (λ P pool. rw (c .before .target5 .ensures)) (c .test5 .ensures _ 4)
+unfolding made rowOf rowIn rows steady hides
+returns-5 c = tried-arm _ _ _ _ _ _ _ _ _ _ (c .before .before .before .before .before .before .before .pre .0) (c .before .before .before .before .before .before .before .pre .1) _ 157 (c .before .before .before .before .before .before .before .pre .2) (c .before .before .before .match .keys5) (Jump (Ifint 4 _)) refl refl refl (λ P pool. rw (c .before .target5 .ensures)) (c .test5 .ensures _ 4)
 
 same-length-6 : tie.Need-same-length-6
 same-length-6 c = search needs
 
 returns-6 : tie.Need-returns-6
-unfolding made rowOf rowIn rows hides
-returns-6 c = tried-arm _ _ _ _ _ _ _ _ _ _ (c .before .before .before .before .before .before .before .pre .0) (c .before .before .before .before .before .before .before .pre .1) _ 158 (c .before .before .before .before .before .before .before .pre .2) (c .before .before .before .match .keys6) (Jump (Ifint 5 _)) refl refl (λ P pool. rw (c .before .target6 .ensures)) (c .test6 .ensures _ 5)
+unfolding made rowOf rowIn rows steady hides
+returns-6 c = tried-arm _ _ _ _ _ _ _ _ _ _ (c .before .before .before .before .before .before .before .pre .0) (c .before .before .before .before .before .before .before .pre .1) _ 158 (c .before .before .before .before .before .before .before .pre .2) (c .before .before .before .match .keys6) (Jump (Ifint 5 _)) refl refl refl (λ P pool. rw (c .before .target6 .ensures)) (c .test6 .ensures _ 5)
 
 same-length-7 : tie.Need-same-length-7
 same-length-7 c = search needs
 
 returns-7 : tie.Need-returns-7
-unfolding made rowOf rowIn rows hides
-returns-7 c = tried-arm _ _ _ _ _ _ _ _ _ _ (c .before .before .before .before .before .before .before .pre .0) (c .before .before .before .before .before .before .before .pre .1) _ 159 (c .before .before .before .before .before .before .before .pre .2) (c .before .before .before .match .keys7) (Jump (Ificmp 0 _)) refl refl (λ P pool. rw (c .before .target7 .ensures)) (c .compare .ensures _ 0)
+unfolding made rowOf rowIn rows steady hides
+returns-7 c = tried-arm _ _ _ _ _ _ _ _ _ _ (c .before .before .before .before .before .before .before .pre .0) (c .before .before .before .before .before .before .before .pre .1) _ 159 (c .before .before .before .before .before .before .before .pre .2) (c .before .before .before .match .keys7) (Jump (Ificmp 0 _)) refl refl refl (λ P pool. rw (c .before .target7 .ensures)) (c .compare .ensures _ 0)
 
 same-length-8 : tie.Need-same-length-8
 same-length-8 c = search needs
 
 returns-8 : tie.Need-returns-8
-unfolding made rowOf rowIn rows hides
-returns-8 c = tried-arm _ _ _ _ _ _ _ _ _ _ (c .before .before .before .before .before .before .before .pre .0) (c .before .before .before .before .before .before .before .pre .1) _ 160 (c .before .before .before .before .before .before .before .pre .2) (c .before .before .before .match .keys8) (Jump (Ificmp 1 _)) refl refl (λ P pool. rw (c .before .target8 .ensures)) (c .compare2 .ensures _ 1)
+unfolding made rowOf rowIn rows steady hides
+returns-8 c = tried-arm _ _ _ _ _ _ _ _ _ _ (c .before .before .before .before .before .before .before .pre .0) (c .before .before .before .before .before .before .before .pre .1) _ 160 (c .before .before .before .before .before .before .before .pre .2) (c .before .before .before .match .keys8) (Jump (Ificmp 1 _)) refl refl refl (λ P pool. rw (c .before .target8 .ensures)) (c .compare2 .ensures _ 1)
 
 same-length-9 : tie.Need-same-length-9
 same-length-9 c = search needs
 
 returns-9 : tie.Need-returns-9
-unfolding made rowOf rowIn rows hides
-returns-9 c = tried-arm _ _ _ _ _ _ _ _ _ _ (c .before .before .before .before .before .before .before .pre .0) (c .before .before .before .before .before .before .before .pre .1) _ 161 (c .before .before .before .before .before .before .before .pre .2) (c .before .before .before .match .keys9) (Jump (Ificmp 2 _)) refl refl (λ P pool. rw (c .before .target9 .ensures)) (c .compare3 .ensures _ 2)
+unfolding made rowOf rowIn rows steady hides
+returns-9 c = tried-arm _ _ _ _ _ _ _ _ _ _ (c .before .before .before .before .before .before .before .pre .0) (c .before .before .before .before .before .before .before .pre .1) _ 161 (c .before .before .before .before .before .before .before .pre .2) (c .before .before .before .match .keys9) (Jump (Ificmp 2 _)) refl refl refl (λ P pool. rw (c .before .target9 .ensures)) (c .compare3 .ensures _ 2)
 
 same-length-10 : tie.Need-same-length-10
 same-length-10 c = search needs
 
 returns-10 : tie.Need-returns-10
-unfolding made rowOf rowIn rows hides
-returns-10 c = tried-arm _ _ _ _ _ _ _ _ _ _ (c .before .before .before .before .before .before .before .pre .0) (c .before .before .before .before .before .before .before .pre .1) _ 162 (c .before .before .before .before .before .before .before .pre .2) (c .before .before .before .match .keys10) (Jump (Ificmp 3 _)) refl refl (λ P pool. rw (c .before .target10 .ensures)) (c .compare4 .ensures _ 3)
+unfolding made rowOf rowIn rows steady hides
+returns-10 c = tried-arm _ _ _ _ _ _ _ _ _ _ (c .before .before .before .before .before .before .before .pre .0) (c .before .before .before .before .before .before .before .pre .1) _ 162 (c .before .before .before .before .before .before .before .pre .2) (c .before .before .before .match .keys10) (Jump (Ificmp 3 _)) refl refl refl (λ P pool. rw (c .before .target10 .ensures)) (c .compare4 .ensures _ 3)
 
 same-length-11 : tie.Need-same-length-11
 same-length-11 c = search needs
 
 returns-11 : tie.Need-returns-11
-unfolding made rowOf rowIn rows hides
-returns-11 c = tried-arm _ _ _ _ _ _ _ _ _ _ (c .before .before .before .before .before .before .before .pre .0) (c .before .before .before .before .before .before .before .pre .1) _ 163 (c .before .before .before .before .before .before .before .pre .2) (c .before .before .before .match .keys11) (Jump (Ificmp 4 _)) refl refl (λ P pool. rw (c .before .target11 .ensures)) (c .compare5 .ensures _ 4)
+unfolding made rowOf rowIn rows steady hides
+returns-11 c = tried-arm _ _ _ _ _ _ _ _ _ _ (c .before .before .before .before .before .before .before .pre .0) (c .before .before .before .before .before .before .before .pre .1) _ 163 (c .before .before .before .before .before .before .before .pre .2) (c .before .before .before .match .keys11) (Jump (Ificmp 4 _)) refl refl refl (λ P pool. rw (c .before .target11 .ensures)) (c .compare5 .ensures _ 4)
 
 same-length-12 : tie.Need-same-length-12
 same-length-12 c = search needs
 
 returns-12 : tie.Need-returns-12
-unfolding made rowOf rowIn rows hides
-returns-12 c = tried-arm _ _ _ _ _ _ _ _ _ _ (c .before .before .before .before .before .before .before .pre .0) (c .before .before .before .before .before .before .before .pre .1) _ 164 (c .before .before .before .before .before .before .before .pre .2) (c .before .before .before .match .keys12) (Jump (Ificmp 5 _)) refl refl (λ P pool. rw (c .before .target12 .ensures)) (c .compare6 .ensures _ 5)
+unfolding made rowOf rowIn rows steady hides
+returns-12 c = tried-arm _ _ _ _ _ _ _ _ _ _ (c .before .before .before .before .before .before .before .pre .0) (c .before .before .before .before .before .before .before .pre .1) _ 164 (c .before .before .before .before .before .before .before .pre .2) (c .before .before .before .match .keys12) (Jump (Ificmp 5 _)) refl refl refl (λ P pool. rw (c .before .target12 .ensures)) (c .compare6 .ensures _ 5)
 
 same-length-13 : tie.Need-same-length-13
 same-length-13 c = search needs
 
 returns-13 : tie.Need-returns-13
-unfolding made rowOf rowIn rows hides
-returns-13 c = tried-arm _ _ _ _ _ _ _ _ _ _ (c .before .before .before .before .before .before .before .pre .0) (c .before .before .before .before .before .before .before .pre .1) _ 167 (c .before .before .before .before .before .before .before .pre .2) (c .before .before .before .match .keys13) (Jump (Goto _)) refl refl (λ P pool. rw (c .before .target13 .ensures)) (c .goto .ensures _)
+unfolding made rowOf rowIn rows steady hides
+returns-13 c = tried-arm _ _ _ _ _ _ _ _ _ _ (c .before .before .before .before .before .before .before .pre .0) (c .before .before .before .before .before .before .before .pre .1) _ 167 (c .before .before .before .before .before .before .before .pre .2) (c .before .before .before .match .keys13) (Jump (Goto _)) refl refl refl (λ P pool. rw (c .before .target13 .ensures)) (c .goto .ensures _)
+
+same-length-14 : tie.Need-same-length-14
+same-length-14 c = search needs
 
 returns-14 : tie.Need-returns-14
-returns-14 c = tried-none _ _ _ _ _ _ _ _ refl
+returns-14 c = c .before .before .names .ensures
 
 pub branches-spec : {M : Type 1} → statement M
 branches-spec =
@@ -218,6 +217,7 @@ branches-spec =
     compare-requires-6
     target-requires-13
     goto-requires
+    names-requires
     same-length
     returns
     same-length-2
@@ -244,4 +244,5 @@ branches-spec =
     returns-12
     same-length-13
     returns-13
+    same-length-14
     returns-14)

@@ -1,10 +1,7 @@
 use mathlib.Core.Path.{refl, sym, _∙_}
-use mathlib.Core.List.{[], _∷_}
-use Prim.Native.Nat.{_+_, _*_}
-use lib.ListN.{getD}
 use borrow.Author.Needs.{needs}
 use borrow.Author.Tests.{not-false}
-use Rattle.rules.specs.GroupLaws.{int-via, reference-via}
+use Rattle.rules.specs.GroupLaws.{reference-via}
 use Rattle.verifier.specs.Quick.{easy-none, stores-reference}
 use Rattle.verifier.proofs.quick.store_reference.Statement.{statement}
 use Rattle.verifier.proofs.quick.store_reference.Tie as tie

@@ -1,10 +1,6 @@
-use mathlib.Core.Path.{refl, sym, _∙_}
-use mathlib.Core.List.{[], _∷_}
-use Prim.Native.Nat.{_+_, _*_}
-use lib.ListN.{getD}
+use mathlib.Core.Path.{sym, _∙_}
 use borrow.Author.Needs.{needs}
-use borrow.Author.Tests.{not-false}
-use Rattle.rules.specs.GroupLaws.{int-via, reference-via}
+use Rattle.rules.specs.GroupLaws.{int-via}
 use Rattle.kit.specs.Bools.{not-so}
 use Rattle.verifier.proofs.quick.two_ints.Statement.{statement}
 use Rattle.verifier.proofs.quick.two_ints.Tie as tie

@@ -5,6 +5,7 @@ use borrow.Author.Needs.{needs}
 use Rattle.rules.specs.StepClaims.{going-same}
 use Rattle.rules.specs.SlotLaws.{outside-none}
 use Rattle.verifier.specs.Lineup.{line-done, step-ready, walking-known}
+use Rattle.verifier.specs.Ahead.{handled-beside}
 use Rattle.verifier.specs.Arrivals.{entered-met}
 use Rattle.verifier.proofs.walk.one_line.Statement.{statement}
 use Rattle.verifier.proofs.walk.one_line.Tie as tie
@@ -25,7 +26,7 @@ known-requires : tie.Need-known-requires
 known-requires c κs = search needs
 
 one-step-requires : tie.Need-one-step-requires
-one-step-requires c κs = step-ready _ _ _ _ _ _ (walking-known _ _ _ _ _ _ (c .before .before .before .before .before .before .before .before .before .before .pre .0) _ _ _ (going-same _ (c .before .before .before .before .before .before .before .before .before .before .pre .0 .depth)) (outside-none _ _) (c .before .before .before .known .ensures .beside) (c .before .before .before .known .kept .1 .0)) (c .before .before .before .known .result) (c .before .before .before .known .ensures .at) (c .before .before .before .known .ensures .count) (c .before .before .before .before .before .before .before .before .before .before .good .0 .1)
+one-step-requires c κs = (let q = step-ready _ _ _ _ _ _ (walking-known _ _ _ _ _ _ (c .before .before .before .before .before .before .before .before .before .before .pre .0) _ _ _ (going-same _ (c .before .before .before .before .before .before .before .before .before .before .pre .0 .depth)) (outside-none _ _) (c .before .before .before .known .ensures .beside) (c .before .before .before .known .kept .1 .0)) (c .before .before .before .known .result) (c .before .before .before .known .ensures .at) (c .before .before .before .known .ensures .count) (c .before .before .before .before .before .before .before .before .before .before .good .0 .1) in (q .0, q .1, q .2, q .3, q .4, q .5, q .6, q .7, q .8, q .9, handled-beside _ _ _ _ _ _ _ _ _ (c .before .before .before .before .before .before .before .before .before .before .pre .0) (c .before .before .before .known .ensures .beside) (c .before .before .before .before .before .before .before .before .before .before .pre .2)))
 
 falls-on-requires : tie.Need-falls-on-requires
 falls-on-requires c κs = search needs

@@ -1,0 +1,2 @@
+// The functions that other languages call, in one archive.
+pub mod outlet;
