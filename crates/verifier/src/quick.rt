@@ -1,5 +1,5 @@
-// Frequent instructions by their opcodes, where nothing is refused: no frame stands at the offset, and the handlers have been asked. The
-// answer is the stack's depth after; 64 where control does not go on, and 65 where nothing was done, for the walk to find out why.
+// Frequent instructions by their opcodes, where nothing is refused: the state has met what stands at the offset, and the handlers have been
+// asked. The answer is the stack's depth after; 64 where control does not go on, and 65 where nothing was done, for the walk to find out why.
 ghost use mathlib.Core.Path.{_≡_};
 ghost use mathlib.Core.Bool.{true, false};
 ghost use Prim.Native.Nat.{_+_, _≤_};
