@@ -11,7 +11,7 @@ use texts::items::got;
 use texts::names;
 
 // How many parameters and results, and the position past them; else a fault's number and place.
-#[derive(Drop)]
+#[derive(Clone, Copy)]
 pub struct Counts {
     pub ok: bool,
     pub params: usize,

@@ -19,14 +19,14 @@ use texts::items::got;
 use texts::{items, names};
 
 // An attribute's content: how often it stands, 2 for more than once, where, and how long; in words, as a table keeps them.
-#[derive(Drop)]
+#[derive(Clone, Copy)]
 pub struct Content {
     pub count: u32,
     pub from: u32,
     pub len: u32,
 }
 
-#[derive(Drop)]
+#[derive(Clone, Copy)]
 pub struct Noted {
     pub got: Got,
     pub what: Content,
@@ -234,14 +234,14 @@ fn table_part(s: &[u8], e: usize, p: usize, q: usize) -> Got
 }
 
 // A method's Code: how often it stands, 2 for more than once, where its content starts, and its frames.
-#[derive(Drop)]
+#[derive(Clone, Copy)]
 pub struct Code {
     pub count: u32,
     pub start: u32,
     pub frames: Content,
 }
 
-#[derive(Drop)]
+#[derive(Clone, Copy)]
 pub struct Coded {
     pub got: Got,
     pub code: Code,

@@ -12,7 +12,7 @@ use texts::items;
 use texts::items::got;
 
 // A pool entry; a text as its start and length.
-#[derive(Drop)]
+#[derive(Clone, Copy)]
 pub enum Entry {
     Absent,
     Utf8(usize, usize),
@@ -24,7 +24,7 @@ pub enum Entry {
 }
 
 // A part of the bundle.
-#[derive(Drop)]
+#[derive(Clone, Copy)]
 pub struct Span {
     pub start: usize,
     pub end: usize,

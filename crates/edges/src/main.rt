@@ -1,5 +1,7 @@
 // Runs document 01's examples on a heap of four cells: for each a line of what is run, refusal, end, value, step count and cells used, parted
 // by tabs.
+#![tactic(auto)]
+
 use libc::stdout_fileno;
 use machine::run::{self, Told};
 

@@ -1,2 +1,4 @@
 // The functions that other languages call, in one archive.
+#![tactic(auto)]
+
 pub mod outlet;

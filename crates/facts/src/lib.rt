@@ -1,1 +1,3 @@
 // What phases A to C give: theorems alone, in specs/.
+
+#![tactic(auto)]

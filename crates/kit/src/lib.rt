@@ -1,4 +1,6 @@
 // Total reads and stores of a lent byte buffer, by bytes and by 32-bit words (low byte first): past the end a read is 0 and a store does nothing.
+#![tactic(auto)]
+
 ghost use Rattle.std.specs.Prelude.{◌≡◌, ◌<◌, length, get_or, replicate};
 ghost use Rattle.kit.specs.Words.{word, put_word};
 

@@ -13,7 +13,7 @@ use running::entry;
 use shaping::whole;
 
 // The refusal, 0 for none; the run; with 21 the verdict.
-#[derive(Drop)]
+#[derive(Clone, Copy)]
 pub struct Told {
     pub refusal: usize,
     pub ran: Ran,

@@ -14,7 +14,7 @@ use stepping::step;
 use stretching::forward;
 
 // The number of the end, what is returned or the class that is not caught, the steps made, the cells used.
-#[derive(Drop)]
+#[derive(Clone, Copy)]
 pub struct Ran {
     pub end: u32,
     pub value: u32,
@@ -55,7 +55,7 @@ fn out_of_steps(budget: u32, used: u32) -> Ran
 }
 
 // Where a stretch has come to in the call that is running, and how many steps are left.
-#[derive(Drop)]
+#[derive(Clone, Copy)]
 pub struct Reached {
     pub call: Frame,
     pub used: u32,

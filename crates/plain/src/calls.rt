@@ -9,7 +9,7 @@ use crate::values::value;
 use crate::window::turn;
 
 // On in a call at its depth, or the number of an end.
-#[derive(Drop)]
+#[derive(Clone, Copy)]
 pub struct Going {
     pub end: u32,
     pub depth: usize,

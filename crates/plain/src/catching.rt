@@ -9,7 +9,7 @@ use rules::types::{self, Kin};
 use texts::items::u2_at;
 
 // A method's exception table: its entries' number and the first one's place in the bundle; the method's class, and how many there are.
-#[derive(Drop)]
+#[derive(Clone, Copy)]
 pub struct Table {
     pub at: usize,
     pub entries: usize,
@@ -17,7 +17,7 @@ pub struct Table {
     pub classes: u32,
 }
 
-#[derive(Drop)]
+#[derive(Clone, Copy)]
 pub struct Caught {
     pub found: bool,
     pub target: u32,

@@ -4,7 +4,7 @@ ghost use Rattle.plain.specs.Calls.{frame_at};
 ghost use Rattle.plain.specs.NextWindow.{Carried, Wiped, Fresh};
 
 // A call without its values: class and method, offset, a constructor's receiver or 0, and how many operands and locals it has.
-#[derive(Drop)]
+#[derive(Clone, Copy)]
 pub struct Frame {
     pub class: u32,
     pub method: u32,

@@ -1,4 +1,6 @@
 // The plain machine. The definitions are in specs/.
+#![tactic(auto)]
+
 pub mod arguments;
 pub mod calls;
 pub mod catching;

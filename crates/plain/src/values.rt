@@ -11,7 +11,7 @@ use crate::heap::{self};
 use rules::types::{self, Kin, Ty};
 
 // A type as a header has it: a class or int's base, and brackets. Int itself is its base without brackets.
-#[derive(Drop)]
+#[derive(Clone, Copy)]
 pub struct RunType {
     pub base: u32,
     pub depth: u32,
@@ -43,7 +43,7 @@ impl RunType {
 }
 
 // A slot: an empty one, an int's bits or a reference.
-#[derive(Drop)]
+#[derive(Clone, Copy)]
 pub struct Value {
     pub tag: u8,
     pub cell: u32,

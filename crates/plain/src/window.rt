@@ -7,7 +7,7 @@ use crate::values::value;
 
 // Where the running call stands: its operands' number, max_stack, how many locals it has, the next instruction's offset, and the heap's
 // cells in use.
-#[derive(Drop)]
+#[derive(Clone, Copy)]
 pub struct Place {
     pub operands: usize,
     pub most: usize,
@@ -17,7 +17,7 @@ pub struct Place {
 }
 
 // What a step comes to: on at an offset, a fault of a class, or the number of an end.
-#[derive(Drop)]
+#[derive(Clone, Copy)]
 pub struct Turn {
     pub end: u32,
     pub at: u32,

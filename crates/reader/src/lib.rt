@@ -1,4 +1,6 @@
 // Phases A and B: bytes to a program. The definitions are in specs/.
+#![tactic(auto)]
+
 pub mod access;
 pub mod link;
 pub mod linking;

@@ -298,7 +298,7 @@ fn parents(s: &[u8], t: &mut [u8], n: usize)
 }
 
 // A refusal of phase B; number 0 where it passes.
-#[derive(Drop)]
+#[derive(Clone, Copy)]
 pub struct Linked {
     pub number: usize,
     pub class: usize,

@@ -10,7 +10,7 @@ use crate::{prints, signature};
 use texts::names;
 
 // Where a member is: the class that has it, and its number there.
-#[derive(Drop)]
+#[derive(Clone, Copy)]
 pub struct Hit {
     pub found: bool,
     pub class: usize,

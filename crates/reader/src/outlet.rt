@@ -5,7 +5,7 @@ ghost use Rattle.reader.specs.Outlet.{IsOutcome, result_size, result_bytes, expo
 use crate::whole;
 
 // A verdict's four numbers; class and method 65535 where none is named.
-#[derive(Drop)]
+#[derive(Clone, Copy)]
 pub struct Answer {
     pub number: usize,
     pub class: usize,

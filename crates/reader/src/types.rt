@@ -158,7 +158,7 @@ pub fn is_known(n: usize, code: usize) -> bool
 }
 
 // Types one after the other: how many codes were kept, whether all are known, and the position past them; else a fault's number and place.
-#[derive(Drop)]
+#[derive(Clone, Copy)]
 pub struct Listed {
     pub ok: bool,
     pub known: bool,

@@ -9,7 +9,7 @@ use crate::{link, linking, printing};
 use classfiles::bundle;
 
 // What reading came to; class 65535 where a refusal names none.
-#[derive(Drop)]
+#[derive(Clone, Copy)]
 pub struct Reading {
     pub ok: bool,
     pub number: usize,

@@ -1,4 +1,6 @@
 // Reads the bundles that its arguments name: for each a line of its name and its verdict's four numbers, parted by tabs.
+#![tactic(auto)]
+
 use libc::stdout_fileno;
 use reader::outlet;
 

@@ -1,5 +1,7 @@
 // Verifies one bundle, the file that its argument names or what stands on standard input: a header, then the verdict's four numbers,
 // parted by tabs.
+#![tactic(auto)]
+
 use libc::{STDIN_FILENO, STDOUT_FILENO};
 use reader::outlet::answer;
 use verifier::verify;

@@ -15,7 +15,7 @@ use crate::types;
 use crate::types::{Kin, Ty};
 
 // Where the parameters' types stand.
-#[derive(Drop)]
+#[derive(Clone, Copy)]
 pub struct Params {
     pub at: usize,
     pub count: usize,
@@ -23,7 +23,7 @@ pub struct Params {
 
 // What the rule of an instruction needs beside the state: what this method returns; of a call its parameters and what comes back; the own
 // class, and the class of the new that made a constructor's receiver.
-#[derive(Drop)]
+#[derive(Clone, Copy)]
 pub struct Known {
     pub back: Gives,
     pub args: Params,

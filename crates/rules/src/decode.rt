@@ -13,7 +13,7 @@ use crate::types::ty;
 use texts::items;
 
 // An opcode, the two bytes behind it, and its offset.
-#[derive(Drop)]
+#[derive(Clone, Copy)]
 pub struct Bytes {
     pub op: u8,
     pub first: u8,

@@ -10,7 +10,7 @@ use crate::slots::{Held, cut, first, fit_operand, need, put, room};
 use crate::types::{Kin, Ty};
 
 // The operands, top first; top stands for any.
-#[derive(Drop)]
+#[derive(Clone, Copy)]
 pub enum Takes {
     Zero,
     One(Ty),
@@ -18,7 +18,7 @@ pub enum Takes {
     Three(Ty, Ty, Ty),
 }
 
-#[derive(Drop)]
+#[derive(Clone, Copy)]
 pub enum Gives {
     Nothing,
     Value(Ty),

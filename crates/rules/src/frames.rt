@@ -14,7 +14,7 @@ use crate::slots::{self, Held};
 use crate::types::{Kin, Ty};
 
 // Where a method's frames stand: the first row, how many there are, and the method's locals.
-#[derive(Drop)]
+#[derive(Clone, Copy)]
 pub struct Rows {
     pub at: usize,
     pub count: usize,
@@ -22,7 +22,7 @@ pub struct Rows {
 }
 
 // The state of a frame that was looked for, if there is one.
-#[derive(Drop)]
+#[derive(Clone, Copy)]
 pub struct Standing {
     pub there: bool,
     pub held: Held,

@@ -2,7 +2,7 @@
 use crate::types::ty;
 
 // A field: the class that the reference names, the class that has it, its place among an object's fields, its type.
-#[derive(Drop)]
+#[derive(Clone, Copy)]
 pub struct Field {
     pub named: u16,
     pub owner: u16,
@@ -11,7 +11,7 @@ pub struct Field {
 }
 
 // A method: the class that the reference names, the class that has it, its number there.
-#[derive(Drop)]
+#[derive(Clone, Copy)]
 pub struct Callee {
     pub named: u16,
     pub owner: u16,
@@ -19,7 +19,7 @@ pub struct Callee {
 }
 
 // What is taken and left is known from the form alone. Newarray holds the array's type.
-#[derive(Drop)]
+#[derive(Clone, Copy)]
 pub enum Plain {
     Nop,
     Aconstnull,
@@ -39,7 +39,7 @@ pub enum Plain {
 }
 
 // The test's number and the target; of two references or one with null, whether equal ones branch.
-#[derive(Drop)]
+#[derive(Clone, Copy)]
 pub enum Branch {
     Goto(u16),
     Ifint(u8, u16),
@@ -48,7 +48,7 @@ pub enum Branch {
     Ifnull(bool, u16),
 }
 
-#[derive(Drop)]
+#[derive(Clone, Copy)]
 pub enum Local {
     Iload(u16),
     Aload(u16),
@@ -58,7 +58,7 @@ pub enum Local {
 }
 
 // What is left depends on what is taken.
-#[derive(Drop)]
+#[derive(Clone, Copy)]
 pub enum Stack {
     Dup,
     Dupx1,
@@ -67,7 +67,7 @@ pub enum Stack {
     Aaload,
 }
 
-#[derive(Drop)]
+#[derive(Clone, Copy)]
 pub enum Leave {
     Athrow,
     Ireturn,
@@ -75,14 +75,14 @@ pub enum Leave {
     Return,
 }
 
-#[derive(Drop)]
+#[derive(Clone, Copy)]
 pub enum Call {
     Virtual(Callee),
     Special(Callee),
     Static(Callee),
 }
 
-#[derive(Drop)]
+#[derive(Clone, Copy)]
 pub enum Instr {
     Simple(Plain),
     Jump(Branch),

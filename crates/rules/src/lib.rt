@@ -1,4 +1,6 @@
 // What each instruction asks of a state and leaves. The definitions are in specs/.
+#![tactic(auto)]
+
 pub mod calls;
 pub mod codes;
 pub mod decode;

@@ -1,5 +1,5 @@
 // A method of the bundle, and where what was read of it stands. Positions are the bundle's.
-#[derive(Drop)]
+#[derive(Clone, Copy)]
 pub struct Site {
     pub classes: usize,
     pub class: usize,
@@ -21,7 +21,7 @@ pub struct Site {
 }
 
 // A ruling on a method: 0, or a verdict's number and its place.
-#[derive(Drop)]
+#[derive(Clone, Copy)]
 pub struct Ruled {
     pub number: u32,
     pub place: usize,

@@ -12,7 +12,7 @@ ghost use Rattle.rules.specs.Slots.{locals_at, stack_at, operands_of, locals_of,
 use crate::types::{self, Kin, Ty};
 
 // Where a state stands: its first word, how many locals and operands it has, and its flag.
-#[derive(Drop)]
+#[derive(Clone, Copy)]
 pub struct Held {
     pub at: usize,
     pub locals: usize,

@@ -10,7 +10,7 @@ ghost use Rattle.rules.specs.Ancestry.{lineage};
 
 // A type as the view of a word: kind + 8 * depth + 64 * number. The number is a class's, an array's base or a new's offset; the depth is
 // that of an array's elements.
-#[derive(Drop)]
+#[derive(Clone, Copy)]
 pub struct Ty {
     pub word: u32,
 }
@@ -219,7 +219,7 @@ impl Ty {
 
 // Where the classes' parents stand in a table of words: class 0's, and how many there are. What the functions below answer is so of every
 // program with these parents.
-#[derive(Drop)]
+#[derive(Clone, Copy)]
 pub struct Kin {
     pub at: usize,
     pub count: usize,

@@ -13,7 +13,7 @@ use plain::{heap, values};
 use rules::types::kin;
 
 // On, with an object and its class; a fault, of null; or stuck, where there is no object to throw.
-#[derive(Drop)]
+#[derive(Clone, Copy)]
 pub struct Thrown {
     pub end: u32,
     pub object: u32,
@@ -21,7 +21,7 @@ pub struct Thrown {
 }
 
 // What came of it, and the class that was thrown.
-#[derive(Drop)]
+#[derive(Clone, Copy)]
 pub struct Sent {
     pub gone: Gone,
     pub class: u32,

@@ -38,7 +38,7 @@ fn stuck(d: usize, k: Frame) -> Going
 }
 
 // 0 and the way into a method; or stuck, or a fault, which is a call's only one: NullPointerException.
-#[derive(Drop)]
+#[derive(Clone, Copy)]
 pub struct Route {
     pub end: u32,
     pub way: Way,

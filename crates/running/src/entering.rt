@@ -18,7 +18,7 @@ use rules::site::site;
 use texts::items;
 
 // A call's method, the object that it constructs or 0, how many of the caller's operands are left, and how many arguments are above them.
-#[derive(Drop)]
+#[derive(Clone, Copy)]
 pub struct Way {
     pub class: u32,
     pub method: u32,

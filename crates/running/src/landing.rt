@@ -14,7 +14,7 @@ use rules::types::kin;
 use shaping::locate;
 
 // The call that catches, at its handler.
-#[derive(Drop)]
+#[derive(Clone, Copy)]
 pub struct Landed {
     pub found: bool,
     pub depth: usize,

@@ -13,7 +13,7 @@ use plain::window::turn;
 use rules::site::site;
 
 // On in the call that waited; or out of the run, with the value unless it is empty.
-#[derive(Drop)]
+#[derive(Clone, Copy)]
 pub struct Left {
     pub going: Going,
     pub value: Value,

@@ -1,4 +1,6 @@
 // Calls, returns and throws of the plain machine.
+#![tactic(auto)]
+
 pub mod athrow;
 pub mod calling;
 pub mod entering;

@@ -15,7 +15,7 @@ use rules::codes;
 use rules::types::kin;
 
 // Whether the arguments were there and fitted; how many operands are left below them, and how many they are.
-#[derive(Drop)]
+#[derive(Clone, Copy)]
 pub struct Popped {
     pub ok: bool,
     pub left: usize,

@@ -13,7 +13,7 @@ use plain::heap;
 use plain::values::value;
 
 // On in the call that catches, or the number of an end; how much of the heap is used then.
-#[derive(Drop)]
+#[derive(Clone, Copy)]
 pub struct Gone {
     pub end: u32,
     pub depth: usize,

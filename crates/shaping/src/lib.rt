@@ -1,4 +1,6 @@
 // Phase C, and what later phases find in the scratch. The definitions are in specs/.
+#![tactic(auto)]
+
 pub mod asks;
 pub mod locate;
 pub mod marks;

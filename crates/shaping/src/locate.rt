@@ -11,7 +11,7 @@ use rules::site::site;
 use texts::{items, names};
 
 // Of a method with one Code; all zero otherwise.
-#[derive(Drop)]
+#[derive(Clone, Copy)]
 pub struct Parts {
     pub stack: usize,
     pub locals: usize,

@@ -11,7 +11,7 @@ use reader::signature;
 use rules::site::{Ruled, Site};
 
 // A verdict: 0, or the refusal's number; where, with 65535 for no class and no method.
-#[derive(Drop)]
+#[derive(Clone, Copy)]
 pub struct Verdict {
     pub number: u32,
     pub class: usize,

@@ -7,7 +7,7 @@ use reader::outlet::answer;
 use reader::whole;
 
 // What phases A to C came to: whether they passed, and of how many classes; otherwise the refusal.
-#[derive(Drop)]
+#[derive(Clone, Copy)]
 pub struct Shaped {
     pub ok: bool,
     pub answer: Answer,

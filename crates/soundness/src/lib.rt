@@ -1,1 +1,3 @@
 // Soundness: theorems alone, in specs/.
+
+#![tactic(auto)]

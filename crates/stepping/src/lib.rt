@@ -1,4 +1,6 @@
 // One step of the plain machine.
+#![tactic(auto)]
+
 pub mod leave;
 pub mod moves;
 pub mod returning;

@@ -11,7 +11,7 @@ use running::throwing;
 use running::throwing::gone;
 
 // 0: on in a call at its depth; else the number of an end, with what is returned or the class that is not caught.
-#[derive(Drop)]
+#[derive(Clone, Copy)]
 pub struct Moved {
     pub end: u32,
     pub value: u32,

@@ -13,7 +13,7 @@ use rules::opcodes::size_at;
 use rules::types::kin;
 
 // What a stretch stands on: max_stack and max_locals of its method, its class in the bundle, how many classes there are in all.
-#[derive(Drop)]
+#[derive(Clone, Copy)]
 pub struct Ground {
     pub most: usize,
     pub locals: usize,

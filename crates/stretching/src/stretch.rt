@@ -5,7 +5,7 @@ use crate::quick;
 use crate::quick::ground;
 
 // Where a stretch has come to, and how many steps are left.
-#[derive(Drop)]
+#[derive(Clone, Copy)]
 pub struct Spot {
     pub at: u32,
     pub operands: usize,

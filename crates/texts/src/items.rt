@@ -4,7 +4,7 @@ ghost use Rattle.texts.specs.Reading.{u2_at, u4_at, num2_at, num4_at, skip_at, s
 ghost use Rattle.texts.specs.Answers.{res};
 
 // ok: a number and the position past it; else a fault's number and place.
-#[derive(Drop)]
+#[derive(Clone, Copy)]
 pub struct Got {
     pub ok: bool,
     pub val: usize,

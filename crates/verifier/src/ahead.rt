@@ -10,7 +10,7 @@ use texts::items::u2_at;
 
 // The row of the next frame, the offset up to which no table entry covers, and whether no frame stands here; then the offset up to which
 // no frame stands and every entry covers what it does here, and whether that is nothing.
-#[derive(Drop)]
+#[derive(Clone, Copy)]
 pub struct Ahead {
     pub row: usize,
     pub quiet: usize,

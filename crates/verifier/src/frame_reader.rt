@@ -148,7 +148,7 @@ pub fn types(
 }
 
 // A frame as it is written: its delta, how many locals and operands it has in the words at hand, and the position past it.
-#[derive(Drop)]
+#[derive(Clone, Copy)]
 pub struct Drawn {
     pub ok: bool,
     pub delta: usize,

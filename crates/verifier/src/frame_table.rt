@@ -103,7 +103,7 @@ fn put_row(t: &mut [u8], a: usize, z: usize, n: usize, m: usize, o: usize)
 // ---- The table.
 
 // Whether the table is good; then its rows, and the position past it. Otherwise the frame that is wrong.
-#[derive(Drop)]
+#[derive(Clone, Copy)]
 pub struct Framed {
     pub ok: bool,
     pub rows: Rows,

@@ -1,4 +1,6 @@
 // Phase D and the verdict of a bundle. The definitions are in specs/.
+#![tactic(auto)]
+
 pub mod ahead;
 pub mod callees;
 pub mod frame_forms;

@@ -38,7 +38,7 @@ use rules::slots::{Held, fit_states, must, peek};
 use rules::types::{Kin, Ty};
 
 // A refusal, 0 for none, and where none the state that goes on.
-#[derive(Drop)]
+#[derive(Clone, Copy)]
 pub struct Step {
     pub refusal: u32,
     pub held: Held,
@@ -147,7 +147,7 @@ fn enter(t: &mut [u8], kin: Kin, f: Rows, live: bool, h: Held, o: usize) -> Step
 }
 
 // What a line leaves: a refusal, 0 for none; whether a state goes on, and where it stands.
-#[derive(Drop)]
+#[derive(Clone, Copy)]
 pub struct Turn {
     pub refusal: u32,
     pub live: bool,
@@ -276,7 +276,7 @@ fn next(code: &[u8], o: usize) -> usize
 }
 
 // Where lines by their opcodes lead: the offset, whether a state goes on and how deep, and whether the line there has to be decoded.
-#[derive(Drop)]
+#[derive(Clone, Copy)]
 pub struct Stretch {
     pub o: usize,
     pub depth: usize,
@@ -347,7 +347,7 @@ fn by_opcodes(
 }
 
 // What lines in a row leave: a refusal, 0 for none, and its offset; otherwise the next offset and the state that goes on there.
-#[derive(Drop)]
+#[derive(Clone, Copy)]
 pub struct Leg {
     pub refusal: u32,
     pub o: usize,
