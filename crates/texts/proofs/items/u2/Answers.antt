@@ -1,0 +1,6 @@
+use Rattle.texts.specs.Reading.{u2}
+use Rattle.texts.proofs.items.u2.Goals as goal
+
+pub returns : goal.returns
+unfolding u2
+returns c = c.num2.ensures
