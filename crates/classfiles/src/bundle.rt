@@ -10,10 +10,10 @@ ghost use Rattle.classfiles.specs.Members.{member_at};
 ghost use Rattle.classfiles.specs.Opening.{Headed};
 ghost use Rattle.classfiles.specs.Sections.{IsRow, IsSection};
 
-use crate::members::code;
+use crate::members::Code;
 use crate::{members, pool};
 use texts::items;
-use texts::items::got;
+use texts::items::Got;
 
 fn magic(s: &[u8], q: usize) -> Got
     ensures { res result ≡ magic_at s.now q }

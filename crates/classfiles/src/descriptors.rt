@@ -7,7 +7,7 @@ ghost use Rattle.texts.specs.Answers.{res};
 ghost use Rattle.classfiles.specs.Counted.{counts_res};
 ghost use Rattle.texts.specs.Reading.{bad};
 
-use texts::items::got;
+use texts::items::Got;
 use texts::names;
 
 // How many parameters and results, and the position past them; else a fault's number and place.

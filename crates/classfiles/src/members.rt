@@ -13,9 +13,9 @@ ghost use Rattle.classfiles.specs.Attributes.{content_by, code_by, table_by, res
 ghost use Rattle.classfiles.specs.Signatures.{access_by, too_many, result_ok, field_by, method_by};
 ghost use Rattle.classfiles.specs.Contents.{member_res, content_in, noted, Tallies, coded, CodeTallies};
 
-use crate::descriptors::counts;
+use crate::descriptors::Counts;
 use crate::{descriptors, pool};
-use texts::items::got;
+use texts::items::Got;
 use texts::{items, names};
 
 // An attribute's content: how often it stands, 2 for more than once, where, and how long; in words, as a table keeps them.

@@ -9,7 +9,7 @@ ghost use Rattle.classfiles.specs.Table.{text_byte, constant_of, Inside, pool_in
 
 use crate::descriptors;
 use texts::items;
-use texts::items::got;
+use texts::items::Got;
 
 // A pool entry; a text as its start and length.
 #[derive(Clone, Copy)]

@@ -2,7 +2,7 @@
 // by tabs.
 #![tactic(auto)]
 
-use libc::stdout_fileno;
+use libc::STDOUT_FILENO;
 use machine::run::{self, Told};
 
 fn print_number(n: u32, last: u8) {

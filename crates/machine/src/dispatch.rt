@@ -8,10 +8,10 @@ ghost use Rattle.running.specs.Dispatching.{spot_word, spot_of, Dispatch};
 ghost use Rattle.machine.specs.Filling.{SmallHit, Asks, Chosen, table_at, table_size, Puts, Filled, Filling, Tabled};
 ghost use Rattle.verifier.specs.Besides.{Besides};
 
-use reader::lookup::hit;
+use reader::lookup::Hit;
 use reader::{lookup, printing, prints, signature};
 use rules::types;
-use rules::types::kin;
+use rules::types::Kin;
 
 // 0 for nowhere, or 1 + 64 * class + index.
 fn packed(h: Hit) -> u32

@@ -5,9 +5,9 @@ ghost use Rattle.shaping.specs.Phases.{Readied, program_now, shape_by, of_all};
 ghost use Rattle.plain.specs.Run.{sizes_ok};
 ghost use Rattle.machine.specs.Outcomes.{lent, no_verdict, refused_as, Sized, Begins, Made, IsEntered, IsRun};
 
-use crate::turns::ran;
+use crate::turns::Ran;
 use crate::{dispatch, turns};
-use reader::outlet::answer;
+use reader::outlet::Answer;
 use reader::types;
 use running::entry;
 use shaping::whole;

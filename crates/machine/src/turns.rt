@@ -6,10 +6,10 @@ ghost use Rattle.running.specs.Dispatching.{Dispatch};
 ghost use Rattle.machine.specs.Onward.{Onward};
 ghost use Rattle.machine.specs.Turns.{closing, SiteOf, RunsOn};
 
-use plain::frames::frame;
-use rules::site::site;
+use plain::frames::Frame;
+use rules::site::Site;
 use running::landing;
-use stepping::moves::moved;
+use stepping::moves::Moved;
 use stepping::step;
 use stretching::forward;
 

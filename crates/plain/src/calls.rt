@@ -5,8 +5,8 @@ ghost use Rattle.plain.specs.Calls.{frame_at};
 ghost use Rattle.plain.specs.CallSteps.{Lent, Gives, resumed_at};
 
 use crate::frames::{self, Frame};
-use crate::values::value;
-use crate::window::turn;
+use crate::values::Value;
+use crate::window::Turn;
 
 // On in a call at its depth, or the number of an end.
 #[derive(Clone, Copy)]

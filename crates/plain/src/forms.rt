@@ -7,7 +7,7 @@ ghost use Rattle.plain.specs.Windows.{Sized, Goes};
 ghost use Rattle.plain.specs.WindowForms.{doing, on_top, two_ints, in_local, turned_words, turned_tags};
 
 use crate::integers;
-use crate::values::value;
+use crate::values::Value;
 use crate::window::{self, Place, Turn};
 
 // Whether an operand of that kind is on top.

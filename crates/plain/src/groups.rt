@@ -10,7 +10,7 @@ ghost use Rattle.plain.specs.HeapTurns.{Steps};
 use crate::window::{Place, Turn};
 use crate::{forms, memory};
 use rules::instruction::{Branch, Local, Plain, Stack};
-use rules::types::kin;
+use rules::types::Kin;
 
 pub fn on_local(w: &mut [u32], g: &mut [u8], c: Place, i: Local) -> Turn
     requires { Sized c w.old g.old }

@@ -17,7 +17,7 @@ ghost use Rattle.plain.specs.HeapForms.{Checked, reaching, arraying, indexing, l
 use crate::values::{self, RunType, Value};
 use crate::window::{self, Place, Turn};
 use crate::{heap, integers, objects};
-use rules::instruction::field;
+use rules::instruction::Field;
 use rules::types::{Kin, Ty};
 
 // Whether v is a receiver of that type: stuck where it does not fit, a fault where it is null.

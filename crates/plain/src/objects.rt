@@ -8,7 +8,7 @@ ghost use Rattle.plain.specs.Objects.{usable, unmade};
 
 use crate::heap::{self};
 use crate::values::{self, RunType, Value};
-use rules::types::kin;
+use rules::types::Kin;
 
 // Null, or a ready object.
 pub fn is_usable(cells: &[u32], v: Value) -> bool

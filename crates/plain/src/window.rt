@@ -3,7 +3,7 @@ ghost use Rattle.std.specs.Prelude.{◌≡◌, ◌+◌, ◌-◌, ◌<◌, ◌≤
 ghost use Rattle.plain.specs.ValueLaws.{value_of};
 ghost use Rattle.plain.specs.Windows.{Sized, Goes, going, pushing, storing};
 
-use crate::values::value;
+use crate::values::Value;
 
 // Where the running call stands: its operands' number, max_stack, how many locals it has, the next instruction's offset, and the heap's
 // cells in use.

@@ -13,7 +13,7 @@ ghost use Rattle.reader.specs.Linked.{parents_at, parents_end, Parents, ClassesL
 ghost use Rattle.reader.specs.Numbers.{low_names, high_names, built_in_names, bundle_names, other_name};
 
 use classfiles::pool;
-use classfiles::pool::span;
+use classfiles::pool::Span;
 use texts::{items, names};
 
 // How many bytes of a block are tags.

@@ -7,7 +7,7 @@ ghost use Rattle.reader.specs.MemberClaims.{member_known};
 ghost use Rattle.reader.specs.MethodTypes.{Ready};
 ghost use Rattle.reader.specs.MemberPass.{MethodKnown, MemberRuled, SectionRuled, ClassRuled, MembersRuled};
 
-use crate::link::linked;
+use crate::link::Linked;
 use crate::{overriding, signature, types};
 
 fn field_known(s: &[u8], t: &[u8], n: usize, c: usize, j: usize) -> bool

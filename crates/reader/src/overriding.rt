@@ -10,7 +10,7 @@ ghost use Rattle.reader.specs.Prints.{Printed};
 ghost use Rattle.reader.specs.MemberRows.{block_at, row_count};
 ghost use Rattle.reader.specs.Lookup.{hit_of};
 
-use crate::lookup::hit;
+use crate::lookup::Hit;
 use crate::{lookup, prints, signature};
 use texts::items;
 

@@ -12,7 +12,7 @@ ghost use Rattle.reader.specs.Prints.{print_of, prints_word, PrintedAt, RowPrint
 
 use crate::{link, prints};
 use classfiles::pool;
-use classfiles::pool::span;
+use classfiles::pool::Span;
 use texts::{items, names};
 
 // The text that the number at p names.

@@ -12,7 +12,7 @@ ghost use Rattle.reader.specs.TypeCodes.{base_of, nested, desc_of, ref_of, resul
 
 use crate::link;
 use classfiles::descriptors;
-use texts::items::got;
+use texts::items::Got;
 use texts::names;
 
 // The class name from q, up to the ; at z: its number.

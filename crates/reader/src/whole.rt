@@ -4,7 +4,7 @@ ghost use Rattle.reader.specs.Access.{Limited};
 ghost use Rattle.reader.specs.Prints.{prints_end};
 ghost use Rattle.reader.specs.Whole.{LinkedWhole, IsReading};
 
-use crate::link::linked;
+use crate::link::Linked;
 use crate::{link, linking, printing};
 use classfiles::bundle;
 

@@ -1,7 +1,7 @@
 // Reads the bundles that its arguments name: for each a line of its name and its verdict's four numbers, parted by tabs.
 #![tactic(auto)]
 
-use libc::stdout_fileno;
+use libc::STDOUT_FILENO;
 use reader::outlet;
 
 fn print_number(n: usize) {

@@ -3,7 +3,7 @@
 #![tactic(auto)]
 
 use libc::{STDIN_FILENO, STDOUT_FILENO};
-use reader::outlet::answer;
+use reader::outlet::Answer;
 use verifier::verify;
 
 fn print_number(n: usize, last: u8) {

@@ -9,7 +9,7 @@ ghost use Rattle.rules.specs.Forms.{gives_of, asked, form_claims, turned, Kept};
 ghost use Rattle.rules.specs.Known.{facts_of, init_fits, special_claims, special_after, call_claims, call_after};
 
 use crate::forms::{Gives, given, leave_form};
-use crate::instruction::call;
+use crate::instruction::Call;
 use crate::slots::{Held, cut, first, fit_operand, must, need, peek, replace_all, room};
 use crate::types;
 use crate::types::{Kin, Ty};

@@ -7,7 +7,7 @@ ghost use Rattle.rules.specs.TypeWords.{type_of};
 ghost use Rattle.rules.specs.InstructionWords.{ref_of, desc_of, element_of};
 ghost use Rattle.rules.specs.TypeCodes.{code_base, code_ref};
 
-use crate::types::ty;
+use crate::types::Ty;
 
 fn base(k: u8) -> u32
     ensures { (result ≡ code_base (k / 8)) × (result < 65536) }

@@ -9,7 +9,7 @@ ghost use Rattle.rules.specs.Decoding.{Refers, CallsBy, Made, Named, Decoded, De
 
 use crate::codes;
 use crate::instruction::{Branch, Call, Callee, Field, Instr, Leave, Local, Plain, Stack};
-use crate::types::ty;
+use crate::types::Ty;
 use texts::items;
 
 // An opcode, the two bytes behind it, and its offset.

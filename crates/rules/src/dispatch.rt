@@ -19,7 +19,7 @@ use crate::steps::{
     ask_branch, ask_leave, ask_local, ask_new, ask_plain, ask_stack, leave_branch, leave_local,
     leave_new, leave_plain, leave_stack,
 };
-use crate::types::kin;
+use crate::types::Kin;
 
 // All that is asked of the instruction at o: operands, its own claims, room.
 pub fn ask(t: &[u8], kin: Kin, h: Held, i: Instr, k: Known, o: u16, most: usize) -> u32

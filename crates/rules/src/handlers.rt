@@ -16,7 +16,7 @@ ghost use Rattle.rules.specs.Handlers.{entry_at, catch_in, handler_by, handlers_
 
 use crate::decode::named_word;
 use crate::frames::{Rows, into_handler};
-use crate::site::site;
+use crate::site::Site;
 use crate::slots::{Held, first, must};
 use crate::types::{Kin, Ty};
 use texts::items::u2_at;

@@ -1,5 +1,5 @@
 // Instructions by their forms, names resolved to numbers, in groups by what they do to a state.
-use crate::types::ty;
+use crate::types::Ty;
 
 // A field: the class that the reference names, the class that has it, its place among an object's fields, its type.
 #[derive(Clone, Copy)]

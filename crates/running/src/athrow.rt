@@ -5,12 +5,12 @@ ghost use Rattle.running.specs.Standing.{Standing};
 ghost use Rattle.running.specs.Athrow.{Checks, Athrows};
 
 use crate::throwing;
-use crate::throwing::gone;
-use plain::frames::frame;
+use crate::throwing::Gone;
+use plain::frames::Frame;
 use plain::values::{RunType, Value};
-use plain::window::turn;
+use plain::window::Turn;
 use plain::{heap, values};
-use rules::types::kin;
+use rules::types::Kin;
 
 // On, with an object and its class; a fault, of null; or stuck, where there is no object to throw.
 #[derive(Clone, Copy)]

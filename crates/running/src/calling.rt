@@ -17,15 +17,15 @@ ghost use Rattle.running.specs.Sending.{CallReady, call_by, Paid};
 
 use crate::entering::{self, Way};
 use crate::popping::{self, Popped};
-use plain::calls::going;
-use plain::frames::frame;
+use plain::calls::Going;
+use plain::frames::Frame;
 use plain::heap::{self};
 use plain::objects::{self};
 use plain::values::{self, RunType, Value};
-use plain::window::turn;
+use plain::window::Turn;
 use rules::instruction::{Call, Callee};
-use rules::site::site;
-use rules::types::kin;
+use rules::site::Site;
+use rules::types::Kin;
 
 fn stuck(d: usize, k: Frame) -> Going
     ensures { result.end ≡ 6 }

@@ -10,11 +10,11 @@ ghost use Rattle.plain.specs.CallSteps.{Lent};
 ghost use Rattle.running.specs.Standing.{records};
 ghost use Rattle.running.specs.Entering.{Entered, Enterable, Into};
 
-use plain::calls::going;
+use plain::calls::Going;
 use plain::frames::{self, Frame};
-use plain::window::turn;
+use plain::window::Turn;
 use reader::access;
-use rules::site::site;
+use rules::site::Site;
 use texts::items;
 
 // A call's method, the object that it constructs or 0, how many of the caller's operands are left, and how many arguments are above them.

@@ -11,7 +11,7 @@ ghost use Rattle.shaping.specs.Phases.{Readied, program_now, shape_by, of_all};
 ghost use Rattle.plain.specs.Run.{all_ints, is_entry};
 ghost use Rattle.running.specs.Entry.{Laid, Emptied, Starts};
 
-use plain::frames::frame;
+use plain::frames::Frame;
 use reader::{access, overriding, signature, types};
 use texts::items;
 

@@ -7,10 +7,10 @@ ghost use Rattle.plain.specs.Landing.{at_handler};
 ghost use Rattle.running.specs.Throws.{OfBundle, Shaped, Catches, Lands, Waiters};
 
 use plain::catching::{Caught, Table};
-use plain::frames::frame;
+use plain::frames::Frame;
 use plain::{catching, frames};
-use rules::site::site;
-use rules::types::kin;
+use rules::site::Site;
+use rules::types::Kin;
 use shaping::locate;
 
 // The call that catches, at its handler.

@@ -6,11 +6,11 @@ ghost use Rattle.running.specs.Leaving.{Leaves, leave_by, return_by, Giving};
 
 use crate::popping::{self};
 use plain::calls::{self, Going};
-use plain::frames::frame;
+use plain::frames::Frame;
 use plain::objects::{self};
-use plain::values::value;
-use plain::window::turn;
-use rules::site::site;
+use plain::values::Value;
+use plain::window::Turn;
+use rules::site::Site;
 
 // On in the call that waited; or out of the run, with the value unless it is empty.
 #[derive(Clone, Copy)]

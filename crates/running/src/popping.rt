@@ -12,7 +12,7 @@ ghost use Rattle.running.specs.Popping.{param_fits, Pops, kin_of};
 use plain::values::{self, Value};
 use reader::types;
 use rules::codes;
-use rules::types::kin;
+use rules::types::Kin;
 
 // Whether the arguments were there and fitted; how many operands are left below them, and how many they are.
 #[derive(Clone, Copy)]

@@ -7,10 +7,10 @@ ghost use Rattle.running.specs.Throws.{Shaped};
 ghost use Rattle.running.specs.Throwing.{Catching, has_slot, Takes, Faults, Throws};
 
 use crate::landing;
-use crate::landing::landed;
-use plain::frames::frame;
+use crate::landing::Landed;
+use plain::frames::Frame;
 use plain::heap;
-use plain::values::value;
+use plain::values::Value;
 
 // On in the call that catches, or the number of an end; how much of the heap is used then.
 #[derive(Clone, Copy)]

@@ -7,7 +7,7 @@ ghost use Rattle.shaping.specs.Located.{Prepared, PartsOf, Located};
 
 use classfiles::pool::cut;
 use reader::{access, overriding, signature};
-use rules::site::site;
+use rules::site::Site;
 use texts::{items, names};
 
 // Of a method with one Code; all zero otherwise.

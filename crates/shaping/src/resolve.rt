@@ -17,11 +17,11 @@ ghost use Rattle.rules.specs.Handlers.{class_in};
 ghost use Rattle.shaping.specs.Located.{Prepared};
 ghost use Rattle.shaping.specs.Resolving.{type_as, member_in, referred, type_word, field_word, method_word, flag_of, Named, Classed, Fills, Around, Blanked, Filled};
 
-use classfiles::pool::entry;
-use reader::lookup::hit;
+use classfiles::pool::Entry;
+use reader::lookup::Hit;
 use reader::{access, lookup, overriding, types as codes};
 use rules::decode;
-use texts::items::got;
+use texts::items::Got;
 use texts::{items, names};
 
 // The type that the Class of name i in class c's pool names: its code, where it is known.

@@ -14,7 +14,7 @@ ghost use Rattle.rules.specs.Handlers.{entry_at, catch_in};
 
 use crate::{asks, marks};
 use reader::types as methods;
-use rules::decode::bytes;
+use rules::decode::Bytes;
 use rules::instruction::{Branch, Instr};
 use rules::site::{Ruled, Site};
 use rules::types::{self, Kin};

@@ -3,7 +3,7 @@ ghost use Rattle.std.specs.Prelude.{◌≤◌, length};
 ghost use Rattle.shaping.specs.Verified.{IsShaped};
 
 use crate::{phases, resolve};
-use reader::outlet::answer;
+use reader::outlet::Answer;
 use reader::whole;
 
 // What phases A to C came to: whether they passed, and of how many classes; otherwise the refusal.

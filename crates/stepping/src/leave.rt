@@ -5,11 +5,11 @@ ghost use Rattle.stepping.specs.Moves.{Does, executed};
 ghost use Rattle.stepping.specs.Windowed.{Before};
 ghost use Rattle.stepping.specs.LeaveMoves.{kind_of};
 
-use crate::moves::moved;
+use crate::moves::Moved;
 use crate::{moves, returning};
-use plain::frames::frame;
-use rules::instruction::leave;
-use rules::site::site;
+use plain::frames::Frame;
+use rules::instruction::Leave;
+use rules::site::Site;
 use running::{athrow, leaving};
 
 // The four as numbers: those that give a value are left with in one place, which so becomes part of the run's loop.

@@ -4,11 +4,11 @@ ghost use Rattle.classfiles.specs.Limits.{max_heap};
 ghost use Rattle.running.specs.Standing.{Standing};
 ghost use Rattle.stepping.specs.Moves.{Stops, Thrown, Given, Faulted, After, Lands};
 
-use plain::frames::frame;
-use plain::window::turn;
-use running::leaving::left;
+use plain::frames::Frame;
+use plain::window::Turn;
+use running::leaving::Left;
 use running::throwing;
-use running::throwing::gone;
+use running::throwing::Gone;
 
 // 0: on in a call at its depth; else the number of an end, with what is returned or the class that is not caught.
 #[derive(Clone, Copy)]

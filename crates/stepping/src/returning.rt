@@ -3,13 +3,13 @@ ghost use Rattle.std.specs.Prelude.{◌≡◌, cond, not};
 ghost use Rattle.running.specs.Standing.{Standing};
 ghost use Rattle.running.specs.Leaving.{Leaves, return_value_by};
 
-use plain::frames::frame;
+use plain::frames::Frame;
 use plain::values;
 use reader::types;
 use rules::codes;
-use rules::site::site;
-use rules::types::kin;
-use running::leaving::left;
+use rules::site::Site;
+use rules::types::Kin;
+use running::leaving::Left;
 use running::{leaving, popping};
 
 fn is_kind(ints: bool, q: bool) -> bool

@@ -6,10 +6,10 @@ ghost use Rattle.running.specs.Sending.{CallReady};
 ghost use Rattle.stepping.specs.Moves.{Does, executed};
 
 use crate::moves;
-use crate::moves::moved;
-use plain::frames::frame;
-use rules::instruction::call;
-use rules::site::site;
+use crate::moves::Moved;
+use plain::frames::Frame;
+use rules::instruction::Call;
+use rules::site::Site;
 use running::calling;
 
 // Into the method, or why not.

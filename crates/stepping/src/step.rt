@@ -12,13 +12,13 @@ ghost use Rattle.stepping.specs.Windowed.{Before};
 ghost use Rattle.stepping.specs.Callable.{Callable};
 ghost use Rattle.stepping.specs.Fetching.{Ready};
 
-use crate::moves::moved;
+use crate::moves::Moved;
 use crate::{leave, moves, sending, windowed};
-use plain::frames::frame;
+use plain::frames::Frame;
 use rules::decode;
-use rules::instruction::instr;
+use rules::instruction::Instr;
 use rules::opcodes::size_at;
-use rules::site::site;
+use rules::site::Site;
 
 // The instruction i of z bytes.
 fn one(

@@ -7,14 +7,14 @@ ghost use Rattle.stepping.specs.Moves.{Does, executed, onward};
 ghost use Rattle.stepping.specs.Windowed.{Before, place_of, after_of};
 
 use crate::moves;
-use crate::moves::moved;
-use plain::frames::frame;
+use crate::moves::Moved;
+use plain::frames::Frame;
 use plain::window::{Place, Turn};
 use plain::{groups, memory};
 use reader::access;
 use rules::instruction::{Branch, Local, Plain, Stack};
-use rules::site::site;
-use rules::types::kin;
+use rules::site::Site;
+use rules::types::Kin;
 
 // Before an instruction of z bytes.
 fn place(x: Site, k: Frame, used: u32, z: usize) -> Place

@@ -16,8 +16,8 @@ ghost use Rattle.stretching.specs.Fields.{Fits};
 use plain::values::{self, RunType, Value};
 use plain::window::{self, Place, Turn};
 use plain::{heap, memory};
-use rules::instruction::field;
-use rules::types::kin;
+use rules::instruction::Field;
+use rules::types::Kin;
 
 // Whether what stands at a is ready and of just that type.
 fn is_just(cells: &[u32], a: u32, of: RunType) -> bool

@@ -1,11 +1,11 @@
 // The running call, as far as its instructions stay in its window.
 ghost use Rattle.stretching.specs.Forwarding.{Ahead, Forward};
 
-use crate::quick::ground;
+use crate::quick::Ground;
 use crate::stretch;
-use crate::stretch::spot;
-use plain::frames::frame;
-use rules::site::site;
+use crate::stretch::Spot;
+use plain::frames::Frame;
+use rules::site::Site;
 
 // Of the call k at depth d, whose method stands at x, at most `left` steps.
 pub fn forward(

@@ -7,10 +7,10 @@ use crate::fields;
 use plain::window::{Place, Turn};
 use plain::{forms, groups, memory};
 use rules::decode;
-use rules::decode::bytes;
-use rules::instruction::instr;
+use rules::decode::Bytes;
+use rules::instruction::Instr;
 use rules::opcodes::size_at;
-use rules::types::kin;
+use rules::types::Kin;
 
 // What a stretch stands on: max_stack and max_locals of its method, its class in the bundle, how many classes there are in all.
 #[derive(Clone, Copy)]

@@ -2,7 +2,7 @@
 ghost use Rattle.stretching.specs.Stretch.{Fit, Stretched};
 
 use crate::quick;
-use crate::quick::ground;
+use crate::quick::Ground;
 
 // Where a stretch has come to, and how many steps are left.
 #[derive(Clone, Copy)]

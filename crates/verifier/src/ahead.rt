@@ -4,8 +4,8 @@ ghost use Rattle.rules.specs.FrameRows.{Laid};
 ghost use Rattle.rules.specs.Sites.{Bounded};
 ghost use Rattle.verifier.specs.Ahead.{Quiet, Nearer, Edge, Alike, Level, Stands, Beyond, Scouted};
 
-use rules::frames::rows;
-use rules::site::site;
+use rules::frames::Rows;
+use rules::site::Site;
 use texts::items::u2_at;
 
 // The row of the next frame, the offset up to which no table entry covers, and whether no frame stands here; then the offset up to which

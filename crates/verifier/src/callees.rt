@@ -12,11 +12,11 @@ use reader::types;
 use rules::calls::{Known, Params};
 use rules::codes::described;
 use rules::decode;
-use rules::forms::gives;
+use rules::forms::Gives;
 use rules::instruction::{Call, Callee, Instr};
-use rules::site::site;
+use rules::site::Site;
 use rules::slots::{Held, peek};
-use rules::types::ty;
+use rules::types::Ty;
 
 fn callee_in(c: Call) -> Callee
     ensures { result ≡ callee_in c }

@@ -7,9 +7,9 @@ ghost use Rattle.verifier.specs.Judging.{topless, Picked};
 ghost use Rattle.verifier.specs.Framing.{Framing};
 
 use crate::frame_reader;
-use crate::frame_reader::drawn;
-use rules::site::site;
-use rules::types::ty;
+use crate::frame_reader::Drawn;
+use rules::site::Site;
+use rules::types::Ty;
 use shaping::marks;
 use texts::items;
 

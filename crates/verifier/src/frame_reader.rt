@@ -6,12 +6,12 @@ ghost use Rattle.verifier.specs.FrameReading.{ok_type, wrong_type, type_named, t
 ghost use Rattle.verifier.specs.FrameTypes.{Types};
 ghost use Rattle.verifier.specs.Drawing.{drawing, one_by, append_by, chop_by, Drew};
 
-use rules::site::site;
-use rules::types::ty;
+use rules::site::Site;
+use rules::types::Ty;
 use rules::{codes, decode};
 use shaping::marks;
 use texts::items;
-use texts::items::got;
+use texts::items::Got;
 
 // A type's word and the position past it.
 fn ty(w: u32, e: usize) -> Got

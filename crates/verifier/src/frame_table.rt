@@ -14,9 +14,9 @@ ghost use Rattle.verifier.specs.FrameTable.{listing, refusing, frames_by, table_
 use crate::frame_forms::frame;
 use crate::start::start;
 use reader::types;
-use rules::frames::rows;
-use rules::site::site;
-use rules::types::ty;
+use rules::frames::Rows;
+use rules::site::Site;
+use rules::types::Ty;
 use texts::items;
 
 // ---- A row.

@@ -9,10 +9,10 @@ ghost use Rattle.verifier.specs.QuickNames.{Idles, Pops};
 ghost use Rattle.verifier.specs.Quick.{Pushed, LoadsInt, LoadsReference, StoresInt, StoresReference, Adds, Doubles, Numbers, Goes, OneInt, TwoInts, Tests, Compares, Away, Open, Tried, steady, target_at};
 
 use crate::quick_names::names;
-use rules::decode::bytes;
+use rules::decode::Bytes;
 use rules::frames::{Rows, into_frame};
-use rules::instruction::field;
-use rules::site::site;
+use rules::instruction::Field;
+use rules::site::Site;
 use rules::slots::{Held, cut, local, peek, put, room, set_local};
 use rules::types::{Kin, Ty};
 use rules::{decode, types};

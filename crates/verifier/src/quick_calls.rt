@@ -13,8 +13,8 @@ use crate::quick_names::operand_fits;
 use reader::types::{param_at, param_count, result_at};
 use rules::codes::described;
 use rules::decode;
-use rules::frames::rows;
-use rules::site::site;
+use rules::frames::Rows;
+use rules::site::Site;
 use rules::slots::{Held, put, room};
 use rules::types::{Kin, Ty};
 

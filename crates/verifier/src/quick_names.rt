@@ -17,8 +17,8 @@ use crate::quick_calls::calls;
 use reader::types::result_at;
 use rules::codes::described;
 use rules::decode;
-use rules::frames::rows;
-use rules::site::site;
+use rules::frames::Rows;
+use rules::site::Site;
 use rules::slots::{Held, no_copy, peek, put, replace_locals, room};
 use rules::types::{Kin, Ty, same_or_assignable};
 

@@ -7,9 +7,9 @@ ghost use Rattle.verifier.specs.Starts.{receiver_of, start_tys, Filled, Started}
 
 use reader::types;
 use rules::codes::described;
-use rules::site::site;
-use rules::slots::held;
-use rules::types::ty;
+use rules::site::Site;
+use rules::slots::Held;
+use rules::types::Ty;
 
 fn receiver(x: Site) -> Ty
     requires { x.class < 16 }

@@ -7,9 +7,9 @@ ghost use Rattle.shaping.specs.Phases.{Readied, shape_by, typing_by, Judged, jud
 
 use crate::{frame_table, walk};
 use reader::signature;
-use rules::site::ruled;
+use rules::site::Ruled;
 use shaping::phases;
-use shaping::phases::verdict;
+use shaping::phases::Verdict;
 
 // Phase D of method m of class c, which has passed phase C: frames, then the walk.
 fn type_method(s: &[u8], t: &mut [u8], n: usize, c: usize, m: usize) -> Ruled

@@ -5,7 +5,7 @@ ghost use Rattle.shaping.specs.Verified.{IsVerified, verify_export};
 
 use crate::typing;
 use reader::outlet;
-use reader::outlet::answer;
+use reader::outlet::Answer;
 use shaping::whole::read_shaped;
 
 // The bundle's verdict; the scratch ends all zero, unless it is too short (20).

@@ -1,0 +1,6 @@
+use Rattle.classfiles.specs.Tags.{utf8_test}
+use Rattle.classfiles.proofs.pool.is_utf8.Goals as goal
+
+pub returns : goal.returns
+returns c =
+    utf8_test c.args.s.now c.place.result _ c.byte.result (c.place.ensures c.args.s.now c.well_formed.0.0) c.byte.ensures.0
