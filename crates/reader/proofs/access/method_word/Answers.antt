@@ -1,0 +1,6 @@
+use Rattle.reader.specs.Access.{tag_block}
+use native.Mathlib.Omega.{arith}
+use Rattle.reader.proofs.access.method_word.Goals as goal
+
+pub returns : goal.returns
+returns c = (tag_block _ _ _ _ (omega (arith, c.requires.1, c.requires.2)) c.word.ensures, omega arith)

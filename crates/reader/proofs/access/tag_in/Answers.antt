@@ -1,0 +1,6 @@
+use native.Mathlib.Omega.{arith}
+use Rattle.reader.specs.Access.{tag_block}
+use Rattle.reader.proofs.access.tag_in.Goals as goal
+
+pub returns : goal.returns
+returns c = (tag_block _ _ _ _ (omega (arith, c.requires.1)) c.word.ensures, omega arith)
