@@ -203,14 +203,14 @@ locals-set t x zero j w h k f = absurd (not-suc-le-zero h)
 locals-set t x (suc n) zero w h k f =
     let e : x + 0 ≡ x = omega arith in
     let l : x < length t / 4 = omega arith in
-    let p : slot (put_word t x w) x ≡ type_of w = slot_put t x w l f in
-    let q : locals_at (put_word t x w) (suc x) n ≡ locals_at t (suc x) n = locals_same t (put_word t x w) (suc x) n (λ i a b. slot_other t x i w (λ e. omega arith)) in
-    rw e (cc)
+    let p : slot (put_word t (x + 0) w) x ≡ type_of w = rw e (slot_put t x w l f) in
+    let q : locals_at (put_word t (x + 0) w) (suc x) n ≡ locals_at t (suc x) n = locals_same t (put_word t (x + 0) w) (suc x) n (λ i a b. slot_other t (x + 0) i w (λ e. omega arith)) in
+    cc
 locals-set t x (suc n) (suc j) w h k f =
     let e : x + suc j ≡ suc x + j = omega arith in
-    let p : slot (put_word t (suc x + j) w) x ≡ slot t x = slot_other t (suc x + j) x w (λ e. omega arith) in
-    let q : locals_at (put_word t (suc x + j) w) (suc x) n ≡ set (locals_at t (suc x) n) j (type_of w) = locals-set t (suc x) n j w (omega arith) (omega arith) f in
-    rw e (cc)
+    let p : slot (put_word t (x + suc j) w) x ≡ slot t x = slot_other t (x + suc j) x w (λ e. omega arith) in
+    let q : locals_at (put_word t (x + suc j) w) (suc x) n ≡ set (locals_at t (suc x) n) j (type_of w) = rw e (locals-set t (suc x) n j w (omega arith) (omega arith) f) in
+    cc
 
 pub moved_to : (h r : Held) (d e : ℕ) → d ≡ e → Moved h r d → Moved h r e
 moved_to h r d e q m = record { at = m.at; locals = m.locals; flag = m.flag; depth = m.depth ∙ q }

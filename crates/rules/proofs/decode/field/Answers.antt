@@ -1,0 +1,4 @@
+use Rattle.rules.proofs.decode.field.Goals as goal
+
+pub returns : goal.returns
+returns c = cc

@@ -1,0 +1,10 @@
+use Rattle.rules.specs.Instruction.{instanceof}
+use mathlib.Core.Path.{refl, ap}
+use Rattle.rules.specs.DecodeLaws.{type_yes, type_no}
+use Rattle.rules.proofs.decode.instance.Goals as goal
+
+pub returns-then-w-eq2 : goal.returns-then-w-eq2
+returns-then-w-eq2 c = type_yes _ _ (λ r. instanceof r) c.if-w-eq2.true (ap instanceof c.reference.ensures.0)
+
+pub returns : goal.returns
+returns c = type_no _ _ (λ r. instanceof r) c.if-w-eq2.false refl

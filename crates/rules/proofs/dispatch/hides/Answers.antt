@@ -1,0 +1,30 @@
+use Rattle.rules.specs.KnownLaws.{hides_form}
+use mathlib.Core.Path.{refl}
+use Rattle.rules.proofs.dispatch.hides.Goals as goal
+
+pub returns-in-Simple : goal.returns-in-Simple
+returns-in-Simple c = hides_form _ _ _ c.in-Simple.is refl
+
+pub returns-in-Jump : goal.returns-in-Jump
+returns-in-Jump c = hides_form _ _ _ c.in-Jump.is refl
+
+pub returns-in-OnLocal : goal.returns-in-OnLocal
+returns-in-OnLocal c = hides_form _ _ _ c.in-OnLocal.is refl
+
+pub returns-in-OnStack : goal.returns-in-OnStack
+returns-in-OnStack c = hides_form _ _ _ c.in-OnStack.is refl
+
+pub returns-in-Leaving : goal.returns-in-Leaving
+returns-in-Leaving c = hides_form _ _ _ c.in-Leaving.is refl
+
+pub returns-in-New : goal.returns-in-New
+returns-in-New c = hides_form _ _ _ c.in-New.is refl
+
+pub returns-in-Calling : goal.returns-in-Calling
+returns-in-Calling c = hides_form _ _ _ c.in-Calling.is c.hides_call.ensures
+
+pub returns-in-Illegal : goal.returns-in-Illegal
+returns-in-Illegal c = hides_form _ _ _ c.in-Illegal.is refl
+
+pub returns-in-Unresolved : goal.returns-in-Unresolved
+returns-in-Unresolved c = hides_form _ _ _ c.in-Unresolved.is refl

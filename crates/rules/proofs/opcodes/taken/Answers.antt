@@ -1,0 +1,10 @@
+use Rattle.rules.specs.OpcodeTable.{table, rule, no_byte}
+use borrow.Author.Rules.{rules}
+use Rattle.rules.proofs.opcodes.taken.Goals as goal
+
+pub returns-then-op-lt256 : goal.returns-then-op-lt256
+unfolding table
+returns-then-op-lt256 c = (rule c.args.op (search rules)).taken
+
+pub returns : goal.returns
+returns c = rw (no_byte _ c.if-op-lt256.false)

@@ -1,0 +1,6 @@
+use Rattle.rules.specs.TypeLaws.{type-int}
+use native.Mathlib.Omega.{arith}
+use Rattle.rules.proofs.types.Ty.int.Goals as goal
+
+pub returns : goal.returns
+returns c = type-int _ (omega arith)

@@ -1,0 +1,6 @@
+use Rattle.rules.specs.TypeLaws.{type-top}
+use native.Mathlib.Omega.{arith}
+use Rattle.rules.proofs.types.Ty.top.Goals as goal
+
+pub returns : goal.returns
+returns c = type-top _ (omega arith)

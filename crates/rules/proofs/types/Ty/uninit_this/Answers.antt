@@ -1,0 +1,6 @@
+use Rattle.rules.specs.TypeLaws.{type_this}
+use native.Mathlib.Omega.{arith}
+use Rattle.rules.proofs.types.Ty.uninit_this.Goals as goal
+
+pub returns : goal.returns
+returns c = type_this _ (omega arith)
