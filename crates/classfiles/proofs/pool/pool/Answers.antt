@@ -28,24 +28,22 @@ returns-then-not-g c = (search reads depth 14, no_value _ c.if-not-g.true)
 
 pub returns-then-not-c : goal.returns-then-not-c
 unfolding pool_at
-returns-then-not-c c =
-    (
-      t_ok _ _ _ c.u2-n.result c.u2-n.ensures c.if-not-n.false
-          (if_ne _ _ _ _ _ c.if-n-eq0.false
-          (if_ge _ _ _ _ _ c.if-n-gt1024.false
-          (as_ok _ _ _ c.all_tags-g.result _ c.all_tags-g.ensures c.if-not-g.false
-          (table_bad c.args.s.now c.all_tags-g.new.t c.u2-n.result.val _ (omega arith) c.checked-c.result c.checked-c.ensures _ c.if-not-c.true)))),
-      no_value _ c.if-not-c.true,
-    )
+returns-then-not-c c = (
+  t_ok _ _ _ c.u2-n.result c.u2-n.ensures c.if-not-n.false
+      (if_ne _ _ _ _ _ c.if-n-eq0.false
+      (if_ge _ _ _ _ _ c.if-n-gt1024.false
+      (as_ok _ _ _ c.all_tags-g.result _ c.all_tags-g.ensures c.if-not-g.false
+      (table_bad c.args.s.now c.all_tags-g.new.t c.u2-n.result.val _ (omega arith) c.checked-c.result c.checked-c.ensures _ c.if-not-c.true)))),
+  no_value _ c.if-not-c.true,
+)
 
 pub returns : goal.returns
 unfolding pool_at
-returns c =
-    (
-      t_ok _ _ _ c.u2-n.result c.u2-n.ensures c.if-not-n.false
-          (if_ne _ _ _ _ _ c.if-n-eq0.false
-          (if_ge _ _ _ _ _ c.if-n-gt1024.false
-          (as_ok _ _ _ c.all_tags-g.result _ c.all_tags-g.ensures c.if-not-g.false
-          (table_ok c.args.s.now c.all_tags-g.new.t c.u2-n.result.val _ (omega arith) c.checked-c.result c.checked-c.ensures c.if-not-c.false)))),
-      λ z. omega arith,
-    )
+returns c = (
+  t_ok _ _ _ c.u2-n.result c.u2-n.ensures c.if-not-n.false
+      (if_ne _ _ _ _ _ c.if-n-eq0.false
+      (if_ge _ _ _ _ _ c.if-n-gt1024.false
+      (as_ok _ _ _ c.all_tags-g.result _ c.all_tags-g.ensures c.if-not-g.false
+      (table_ok c.args.s.now c.all_tags-g.new.t c.u2-n.result.val _ (omega arith) c.checked-c.result c.checked-c.ensures c.if-not-c.false)))),
+  λ z. omega arith,
+)
