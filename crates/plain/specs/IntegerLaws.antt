@@ -6,7 +6,7 @@ use Rattle.std.proofs.Math.ListN.{get_or-eq_default}
 use Rattle.std.proofs.Math.Nat.{div-le_self, mod-le}
 use Rattle.std.proofs.lemmas.Bool.{lt-leb}
 use Rattle.std.proofs.Math.Arith.{lt-one}
-use Rattle.std.specs.Int.Bits.{digits, bitwise, differ, and_step, or_step, xor_step}
+use Rattle.std.specs.Int.Bits.{digits, differ, and_step, or_step, xor_step, and_zero_l, or_zero_l, xor_zero_l}
 use Rattle.std.specs.Int.{w32}
 use Rattle.kit.specs.Pick.{side}
 use Rattle.rules.specs.Instruction.{add, sub, mul, shl, shr, ushr, and, or, xor, quotient, remainder, eq, ne, lt, ge, gt, le}
@@ -141,10 +141,10 @@ sign_bit a =
     ⊎_elim (λ h. lt-leb (2 ^ 31) a h ∙ sym (ap not (lt-ltb a (2 ^ 31) h))) (λ h. le-leb (2 ^ 31) a h ∙ sym (ap not (le-ltb a (2 ^ 31) h))) (side a (2 ^ 31))
 
 -- ---- an operation of 32 binary digits is the logic's, that has as many digits as the first number
-module _ (z : ℕ → ℕ) (f : ℕ → ℕ → ℕ) (step : (a b : ℕ) → bitwise z f a b ≡ bitwise z f (a / 2) (b / 2) * 2 + f (a % 2) (b % 2)) where
-  few_digits : (n a b : ℕ) → a < 2 ^ n → bitwise z f a b ≡ digits z f n a b
-  few_digits zero a b h = rw (lt-one h)
-  few_digits (suc n) zero b h = refl
+module _ (z : ℕ → ℕ) (f op : ℕ → ℕ → ℕ) (none : (b : ℕ) → op zero b ≡ z b) (step : (a b : ℕ) → op a b ≡ op (a / 2) (b / 2) * 2 + f (a % 2) (b % 2)) where
+  few_digits : (n a b : ℕ) → a < 2 ^ n → op a b ≡ digits z f n a b
+  few_digits zero a b h = rw (lt-one h) (none b)
+  few_digits (suc n) zero b h = none b
   few_digits (suc n) (suc a) b h =
       step (suc a) b
       ∙ ap (λ (x : ℕ). x * 2 + f (suc a % 2) (b % 2)) (few_digits n (suc a / 2) (b / 2) (omega (arith, pow-suc 2 n)))
@@ -152,15 +152,15 @@ module _ (z : ℕ → ℕ) (f : ℕ → ℕ → ℕ) (step : (a b : ℕ) → bit
 module _ (a b : ℕ) (h : a < 2 ^ 32) where
   pub and_digits : bit_and a b ≡ compute and a b
   unfolding compute
-  and_digits = few_digits (λ c. zero) min and_step 32 a b h
+  and_digits = few_digits (λ c. zero) min bit_and and_zero_l and_step 32 a b h
 
   pub or_digits : bit_or a b ≡ compute or a b
   unfolding compute
-  or_digits = few_digits (λ c. c) max or_step 32 a b h
+  or_digits = few_digits (λ c. c) max bit_or or_zero_l or_step 32 a b h
 
   pub xor_digits : bit_xor a b ≡ compute xor a b
   unfolding compute
-  xor_digits = few_digits (λ c. c) differ xor_step 32 a b h
+  xor_digits = few_digits (λ c. c) differ bit_xor xor_zero_l xor_step 32 a b h
 
 -- ---- numbers of operations and tests: the first one's for any that is not listed
 past_four : (k : ℕ) → 0 < k → (k ≢ 1) → (k ≢ 2) → (k ≢ 3) → (k ≢ 4) → 4 < k

@@ -1,7 +1,7 @@
 -- The running call's window of 64 slots with their tags: locals from 0 on, operands from 32 on; and how it is read back.
 use Rattle.std.specs.Prelude.{◌≡◌, ℕ, zero, suc, ◌+◌, ◌-◌, ◌<◌, ◌≤◌, Bool, cond, ◌⊎◌, List, [], ◌∷◌, length, ◌==◌, ◌≢◌, nat_lt, slice_index, slice_index_or, slice_set}
 use Rattle.std.proofs.Math.Path.{refl}
-use Rattle.std.proofs.Common.{ap, ◌∙◌, inl, inr, lt-ltb, le-ltb}
+use Rattle.std.proofs.Common.{subst, sym, ap, ◌∙◌, inl, inr, lt-ltb, le-ltb}
 use native.Mathlib.Omega.{arith}
 use Rattle.std.proofs.Math.Seq.{get_or-set_same, get_or-set_other}
 use Rattle.kit.specs.Pick.{side}
@@ -157,20 +157,20 @@ module _ (w g : List ℕ) (v k : ℕ) where
   local_put b zero j h l m = absurd (omega arith)
   local_put b (suc n) zero h l m =
       let e : b + 0 ≡ b = omega arith in
-      rw (
-        e,
+      subst (λ (i : ℕ). slice_set (locs_from w g b (suc n)) 0 (value_of k v) ≡ locs_from (slice_set w i v) (slice_set g i k) b (suc n)) (sym e)
+      (rw (
         get_or-set_same w b v 0 (omega arith),
         get_or-set_same g b k 0 (omega arith),
         locs_same (slice_set w b v) w (slice_set g b k) g (suc b) n (same_set w (suc b) (suc b + n) b v (inl (omega arith))) (same_set g (suc b) (suc b + n) b k (inl (omega arith))),
-      )
+      ))
   local_put b (suc n) (suc j) h l m =
       let e : b + suc j ≡ suc b + j = omega arith in
-      rw (
-        e,
+      subst (λ (i : ℕ). slice_set (locs_from w g b (suc n)) (suc j) (value_of k v) ≡ locs_from (slice_set w i v) (slice_set g i k) b (suc n)) (sym e)
+      (rw (
         get_or-set_other w (suc b + j) b v 0 (λ q. omega arith),
         get_or-set_other g (suc b + j) b k 0 (λ q. omega arith),
         ← local_put (suc b) n j (omega arith) (omega arith) (omega arith),
-      )
+      ))
 
   -- the operands stay
   pub ops_local : (n j : ℕ) → j < 32 → ops_of (slice_set w j v) (slice_set g j k) n ≡ ops_of w g n

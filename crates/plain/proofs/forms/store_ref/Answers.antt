@@ -1,0 +1,16 @@
+use Rattle.plain.specs.Turns.{sized_low, decided, if_not, if_so}
+use Rattle.plain.specs.WindowForms.{astore_by, steps, theres}
+use Rattle.std.proofs.Common.{rules}
+use Rattle.plain.proofs.forms.store_ref.Goals as goal
+
+pub returns-then-not-on_top : goal.returns-then-not-on_top
+returns-then-not-on_top c = if_not _ _ _ _ _ _ _ (astore_by _ _ _ _) (search decided) (search rules) (search rules)
+
+pub lowered-requires : goal.lowered-requires
+lowered-requires c = search theres
+
+pub put_local-requires : goal.put_local-requires
+put_local-requires c = search (sized_low)
+
+pub returns : goal.returns
+returns c = if_so _ _ _ _ _ _ _ _ _ (astore_by _ _ _ _) (search decided) (search steps depth 6)

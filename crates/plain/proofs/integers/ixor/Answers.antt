@@ -1,0 +1,5 @@
+use Rattle.plain.specs.IntegerLaws.{integers}
+use Rattle.plain.proofs.integers.ixor.Goals as goal
+
+pub returns : goal.returns
+returns c = search integers

@@ -1,0 +1,14 @@
+use Rattle.plain.specs.Objects.{objects}
+use Rattle.plain.proofs.objects.is_unmade.Goals as goal
+
+pub returns-then-v-ne-REF : goal.returns-then-v-ne-REF
+returns-then-v-ne-REF c = search objects
+
+pub returns-then-v-eq0 : goal.returns-then-v-eq0
+returns-then-v-eq0 c = search objects
+
+pub returns-then-ready_at : goal.returns-then-ready_at
+returns-then-ready_at c = search objects
+
+pub returns : goal.returns
+returns c = search objects

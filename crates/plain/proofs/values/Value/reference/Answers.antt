@@ -1,0 +1,5 @@
+use Rattle.plain.specs.ValueLaws.{tags}
+use Rattle.plain.proofs.values.Value.reference.Goals as goal
+
+pub returns : goal.returns
+returns c = search tags

@@ -1,0 +1,8 @@
+use Rattle.plain.specs.ValueLaws.{writings}
+use Rattle.plain.proofs.values.named.Goals as goal
+
+pub returns-then-t-eq-ARRAY : goal.returns-then-t-eq-ARRAY
+returns-then-t-eq-ARRAY c = search writings
+
+pub returns : goal.returns
+returns c = search writings

@@ -1,0 +1,6 @@
+use Rattle.verifier.specs.Starts.{started}
+use mathlib.Core.Path.{refl}
+use Rattle.verifier.proofs.start.start.Goals as goal
+
+pub returns : goal.returns
+returns c = started _ _ c.args.x _ c.fill.ensures refl
