@@ -5,16 +5,10 @@ use Rattle.rules.specs.SlotLaws.{outside_none, claim_yes}
 use Rattle.verifier.proofs.walk.arrive.Goals as goal
 
 pub returns-then-clear : goal.returns-then-clear
-returns-then-clear c = (
-  meet_none _ c.args.live (held c.args.t.now c.args.h) _ 0 (c.requires.5 c.if-clear.true) (claim_yes 17 _ c.if-live.true),
-  (
-    (λ z. merge_none c.args.live (held c.args.t.now c.args.h) _ 0 (c.requires.5 c.if-clear.true) (claim_yes 17 _ c.if-live.true) z),
-    (going_same _ c.requires.1, outside_none _ _),
-  ),
-)
+returns-then-clear c = record { says = meet_none _ c.args.live (held c.args.t.now c.args.h) _ 0 (c.requires.5 c.if-clear.true) (claim_yes 17 _ c.if-live.true); leaves = (λ z. merge_none c.args.live (held c.args.t.now c.args.h) _ 0 (c.requires.5 c.if-clear.true) (claim_yes 17 _ c.if-live.true) z); keeps = (going_same _ c.requires.1, outside_none _ _) }
 
 pub shape_of-t : goal.shape_of-t
 shape_of-t c = c.enter.auto.t
 
 pub returns : goal.returns
-returns c = c.enter.ensures
+returns c = record { says = c.enter.ensures.says; leaves = c.enter.ensures.leaves; keeps = c.enter.ensures.keeps }

@@ -72,7 +72,7 @@ pub loop-o-smaller : goal.loop-o-smaller
 loop-o-smaller c = omega (arith, next_far c.args.code.now c.loop-o.o c.loop-o-test.true, c.next-o.ensures)
 
 pub loop-o-preserved : goal.loop-o-preserved
-loop-o-preserved c = (c.quick-v.auto.t ∙ c.loop-o.invariant.0, stretching_on c.args.s.now c.args.t.now c.loop-o.t c.args.x c.args.kin c.args.f c.args.h c.args.from c.loop-o.o c.loop-o.depth c.loop-o.invariant.1 _ c.requires.1 c.loop-o-test.true c.quick-v.new.t c.quick-v.result _ c.placed-g.ensures c.quick-v.ensures c.if-v-eq65.false c.quick-v.auto.t c.next-o.result c.next-o.ensures c.if-v-eq64.false _ _ c.requires.3 c.loop-o.invariant.2 (c.asks_same-same.ensures (not-false _ c.if-not-same.false)) c.if-till-o.false, level_on c.args.s.now c.args.t.now c.loop-o.t c.args.x c.args.kin c.args.f c.args.h c.args.from c.loop-o.o c.loop-o.depth c.loop-o.invariant.1 _ c.requires.1 c.loop-o-test.true c.quick-v.new.t c.quick-v.result _ c.placed-g.ensures c.quick-v.ensures c.if-v-eq65.false c.quick-v.auto.t c.next-o.result c.next-o.ensures c.if-v-eq64.false _ _ c.loop-o.invariant.2 c.if-till-o.false)
+loop-o-preserved c = (c.quick-v.auto.t ∙ c.loop-o.invariant.0, stretching_on c.args.s.now c.args.t.now c.loop-o.t c.args.x c.args.kin c.args.f c.args.h c.args.from c.loop-o.o c.loop-o.depth c.loop-o.invariant.1 _ c.requires.1 c.loop-o-test.true c.quick-v.new.t c.quick-v.result _ c.placed-g.ensures c.quick-v.ensures c.if-v-eq65.false c.quick-v.auto.t c.next-o.result c.next-o.ensures c.if-v-eq64.false _ _ c.requires.3 c.loop-o.invariant.2 (c.asks_same-same.ensures c.if-not-same.false) c.if-till-o.false, level_on c.args.s.now c.args.t.now c.loop-o.t c.args.x c.args.kin c.args.f c.args.h c.args.from c.loop-o.o c.loop-o.depth c.loop-o.invariant.1 _ c.requires.1 c.loop-o-test.true c.quick-v.new.t c.quick-v.result _ c.placed-g.ensures c.quick-v.ensures c.if-v-eq65.false c.quick-v.auto.t c.next-o.result c.next-o.ensures c.if-v-eq64.false _ _ c.loop-o.invariant.2 c.if-till-o.false)
 
 pub stopped-requires-2 : goal.stopped-requires-2
 stopped-requires-2 c = search (rules, arith)

@@ -16,4 +16,4 @@ shape_of-t c = c.one_step-r.auto.t ∙ c.known-k.auto.t
 
 pub returns : goal.returns
 unfolding part
-returns c = line_done c.args.s.now c.args.t.now c.args.t.now c.args.x c.args.kin c.args.f true c.args.h c.args.o c.requires.0 0 c.args.h (entered_met _ _ _ _ c.requires.1 _) (λ z. sym c.requires.1.same) (going_same _ c.requires.0.depth) (outside_none _ _) refl c.known-k.new.t c.one_step-r.new.t c.instruction-i.result c.known-k.result c.instruction-i.ensures c.known-k.ensures c.one_step-r.result.refusal c.one_step-r.result.held c.one_step-r.ensures.0 c.one_step-r.ensures.1.0 c.one_step-r.ensures.1.1.0 c.one_step-r.ensures.1.1.1 _ _ c.falls_on.ensures refl
+returns c = line_done c.args.s.now c.args.t.now c.args.t.now c.args.x c.args.kin c.args.f true c.args.h c.args.o c.requires.0 0 c.args.h (entered_met _ _ _ _ c.requires.1 _) (λ z. sym c.requires.1.same) (going_same _ c.requires.0.depth) (outside_none _ _) refl c.known-k.new.t c.one_step-r.new.t c.instruction-i.result c.known-k.result c.instruction-i.ensures c.known-k.ensures c.one_step-r.result.refusal c.one_step-r.result.held c.one_step-r.ensures.says c.one_step-r.ensures.leaves c.one_step-r.ensures.keeps.0 c.one_step-r.ensures.keeps.1 _ _ c.falls_on.ensures refl
