@@ -1,0 +1,7 @@
+use Rattle.plain.specs.Landing.{at_handler}
+use borrow.Author.Rules.{rules}
+use Rattle.running.proofs.landing.at_handler.Goals as goal
+
+pub returns : goal.returns
+unfolding at_handler
+returns c = search rules

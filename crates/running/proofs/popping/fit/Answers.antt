@@ -1,0 +1,26 @@
+use Rattle.kit.specs.Scan.{alls}
+use Rattle.kit.specs.Pick.{calls}
+use native.Mathlib.Omega.{arith}
+use Prim.Native.Nat.{◌-◌}
+use Rattle.running.proofs.popping.fit.Goals as goal
+
+pub loop-i-init : goal.loop-i-init
+loop-i-init c = search (alls, calls, arith) depth 12
+
+pub one_fits-requires : goal.one_fits-requires
+one_fits-requires c = (omega arith, c.requires.1, c.requires.2, c.requires.3, omega (arith, c.requires.4))
+
+pub returns-then-not-one_fits : goal.returns-then-not-one_fits
+returns-then-not-one_fits c = search (alls, calls, arith) depth 12
+
+pub overflow_add-i : goal.overflow_add-i
+overflow_add-i c = omega arith
+
+pub loop-i-smaller : goal.loop-i-smaller
+loop-i-smaller c = omega arith
+
+pub loop-i-preserved : goal.loop-i-preserved
+loop-i-preserved c = search (alls, calls, arith) depth 12
+
+pub returns : goal.returns
+returns c = search (alls, calls, arith) depth 12

@@ -1,0 +1,7 @@
+use Rattle.running.specs.Throwing.{with_one}
+use borrow.Author.Rules.{rules}
+use Rattle.running.proofs.throwing.take.Goals as goal
+
+pub returns : goal.returns
+unfolding with_one
+returns c = search rules
