@@ -1,4 +1,4 @@
-//! Links the archive of `rt staticlib reader` if it is there: the reader by itself is only measured.
+//! Links the archive of `tools/archive reader` if it is there: the reader by itself is only measured.
 
 use std::env;
 use std::path::{Path, PathBuf};

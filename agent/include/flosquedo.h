@@ -1,4 +1,4 @@
-/* The proved verifier and machine, as the archive of `rt staticlib exports` exports them.
+/* The proved verifier and machine, as the archive of `tools/archive exports` exports them.
  *
  * A buffer is passed as a pointer and a length, counted in its elements. Buffers must not overlap. No call allocates, keeps a pointer or
  * depends on an earlier call; calls with buffers of their own may run side by side.

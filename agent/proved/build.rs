@@ -1,4 +1,4 @@
-//! Links `libexports.a`: in the directory that `FLOSQUEDO_ARCHIVES` names, or where `rt staticlib exports` puts it, which is run if it is not there.
+//! Links `libexports.a`: in the directory that `FLOSQUEDO_ARCHIVES` names, or where `tools/archive exports` puts it, which is run if it is not there.
 
 use std::env;
 use std::path::{Path, PathBuf};
@@ -38,20 +38,20 @@ fn make(archive: &Path) {
             ARCHIVE
         );
     }
-    println!("cargo:warning=proving and compiling the machine by `rt staticlib exports`; this takes minutes");
-    let made = Command::new("rt")
-        .args(["staticlib", "exports"])
+    println!("cargo:warning=proving and compiling the machine by `tools/archive exports`; this takes minutes");
+    let made = Command::new(root().join("tools/archive"))
+        .arg("exports")
         .current_dir(root())
         .output();
     match made {
         Err(error) => panic!(
-            "{} is not there, and `rt`, the Rattle toolchain that makes it, could not be started ({}). Install rt, or set FLOSQUEDO_ARCHIVES to a directory with {}.",
+            "{} is not there, and `tools/archive exports`, which makes it, could not be started ({}). Install rt, the Rattle toolchain, or set FLOSQUEDO_ARCHIVES to a directory with {}.",
             archive.display(), error, ARCHIVE
         ),
         Ok(output) if !output.status.success() => panic!(
-            "`rt staticlib exports` failed:\n{}{}",
+            "`tools/archive exports` failed:\n{}{}",
             String::from_utf8_lossy(&output.stdout), String::from_utf8_lossy(&output.stderr)
         ),
-        Ok(_) => assert!(archive.is_file(), "`rt staticlib exports` did not write {}", archive.display()),
+        Ok(_) => assert!(archive.is_file(), "`tools/archive exports` did not write {}", archive.display()),
     }
 }

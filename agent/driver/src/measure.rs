@@ -34,7 +34,7 @@ pub const BENCHES: [Sample; 5] = [
 /// What reading, linking and clearing costs.
 pub fn measure_reader() -> ExitCode {
     if !Part::Reader.is_linked() {
-        eprintln!("built without the reader's archive: run `rt staticlib reader` at the repository's root, then build again");
+        eprintln!("built without the reader's archive: run `tools/archive reader` at the repository's root, then build again");
         return ExitCode::from(2);
     }
     let mut bench = Bench::new(Part::Reader);
