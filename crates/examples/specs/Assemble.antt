@@ -14,14 +14,14 @@ utf8 t = 1 ∷ (u2 (length t) ++ t)
 abbrev pub class_entry : ℕ → List ℕ
 class_entry i = 7 ∷ u2 i
 
--- java/lang/object, and ()V
+-- java/lang/Object, and ()V
 abbrev pub object_name : Text
 object_name = 106 ∷ 97 ∷ 118 ∷ 97 ∷ 47 ∷ 108 ∷ 97 ∷ 110 ∷ 103 ∷ 47 ∷ 79 ∷ 98 ∷ 106 ∷ 101 ∷ 99 ∷ 116 ∷ []
 
 abbrev pub no_arguments : Text
 no_arguments = 40 ∷ 41 ∷ 86 ∷ []
 
--- 1 A, 2 class A, 3 java/lang/object, 4 class Object, 5 and 6 the method's name and descriptor, 7 Code, 8 StackMapTable,
+-- 1 A, 2 class A, 3 java/lang/Object, 4 class Object, 5 and 6 the method's name and descriptor, 7 Code, 8 StackMapTable,
 -- 9 <init>, 10 ()V, 11 the two, 12 Object's constructor
 abbrev pub pool : Text → Text → List ℕ
 pool name descriptor =

@@ -1,6 +1,5 @@
 use Rattle.kit.specs.Pick.{calls}
 use Rattle.kit.specs.Scan.{alls}
-use Prim.Native.Nat.{◌-◌}
 use native.Mathlib.Omega.{arith}
 use Rattle.texts.specs.Names.{class_name}
 use Rattle.texts.proofs.names.class_name.Goals as goal

@@ -1,6 +1,5 @@
 use Rattle.kit.specs.Pick.{same}
 use Rattle.kit.specs.Lists.{texts}
-use Prim.Native.Nat.{◌-◌}
 use native.Mathlib.Omega.{arith}
 use Rattle.texts.proofs.names.same_text.Goals as goal
 

@@ -1,6 +1,5 @@
 use Rattle.kit.specs.Pick.{calls}
 use Rattle.kit.specs.Scan.{alls}
-use Prim.Native.Nat.{◌-◌}
 use native.Mathlib.Omega.{arith}
 use Rattle.texts.specs.Names.{unqualified}
 use Rattle.texts.proofs.names.unqualified.Goals as goal
