@@ -2,52 +2,53 @@
 // by tabs.
 #![tactic(auto)]
 
-use libc::STDOUT_FILENO;
+ghost use Rattle.std.specs.Prelude.{◌≤◌, length, IfOk};
+
 use machine::run::{self, Told};
+use std::io::Read;
+use std::rt::Files;
+use std::{fs, io};
 
-fn print_number(n: u32, last: u8) {
-    io::print_decimal(STDOUT_FILENO, n as u64);
-    io::write_all(STDOUT_FILENO, &[last]);
+// The value with its sign.
+fn print_told(out: &impl Print, what: &str, r: Told) -> io::Result<()> {
+    let refusal = r.refusal;
+    let end = r.ran.end;
+    let value = r.ran.value.cast_signed();
+    let count = r.ran.count;
+    let used = r.ran.used;
+    println!(out; "{what}\t{refusal}\t{end}\t{value}\t{count}\t{used}")
 }
 
-// With its sign.
-fn print_value(v: u32) {
-    if v < 2147483648 {
-        print_number(v, b'\t');
-        return;
+// Reads until the buffer is full or the input ends.
+fn read_full(input: &mut impl Read, buf: &mut [u8]) -> io::Result<usize>
+    ensures { IfOk result (λ n. n ≤ length buf.new) }
+{
+    let mut done = 0;
+    while done < buf.len() {
+        let n = input.read(&mut buf[done..])?;
+        if n == 0 {
+            break;
+        }
+        done += n;
     }
-    io::write_all(STDOUT_FILENO, b"-");
-    print_number(4294967295 - v + 1, b'\t');
+    Ok(done)
 }
 
-fn print_told(what: &[u8], r: Told) {
-    let q = r.ran;
-    io::write_all(STDOUT_FILENO, what);
-    io::write_all(STDOUT_FILENO, b"\t");
-    io::print_decimal(STDOUT_FILENO, r.refusal as u64);
-    io::write_all(STDOUT_FILENO, b"\t");
-    print_number(q.end, b'\t');
-    print_value(q.value);
-    print_number(q.count, b'\t');
-    print_number(q.used, b'\n');
+fn read_file(files: &impl Files, path: &str, bundle: &mut [u8]) -> io::Result<usize>
+    ensures { IfOk result (λ n. n ≤ length bundle.new) }
+{
+    let mut file = fs::open(files, path)?;
+    read_full(&mut file, bundle)
 }
 
-// Method 0 of class 0 of the bundle in a file.
-fn show(path: &[u8], what: &[u8], args: &[u32], budget: u32) {
-    let mut bundle = [0u8; 4096];
+// Method 0 of class 0 of the bundle.
+fn run_first(bundle: &[u8], args: &[u32], budget: u32) -> Told {
     let mut scratch = [0u8; 262144];
     let mut cells = [0u32; 4];
     let mut slots = [0u32; 4096];
     let mut tags = [0u8; 4096];
-    let fd = os::open_read(path);
-    if fd < 0 {
-        os::fail(path);
-        return;
-    }
-    let n = io::read_full(fd, &mut bundle);
-    libc::close(fd);
-    let r = run::run(
-        &bundle[..n],
+    run::run(
+        bundle,
         &mut scratch,
         &mut cells,
         &mut slots,
@@ -56,33 +57,48 @@ fn show(path: &[u8], what: &[u8], args: &[u32], budget: u32) {
         0,
         args,
         budget,
-    );
-    print_told(what, r);
+    )
 }
 
-fn main() {
-    io::write_all(STDOUT_FILENO, b"run\trefusal\tend\tvalue\tcount\tcells\n");
-    show(b"ex01", b"1()", &[], 1000);
-    show(b"ex01", b"1(), budget 1", &[], 1);
-    show(b"ex02", b"2()", &[], 1000);
-    show(b"ex03", b"3()", &[], 1000);
-    show(b"ex06", b"6()", &[], 1000);
-    show(b"ex06b", b"6(), with the frame", &[], 1000);
-    show(b"ex07", b"7(0)", &[0], 1000);
-    show(b"ex07", b"7(5)", &[5], 1000);
-    show(b"ex07b", b"7(0), without the frame", &[0], 1000);
-    show(b"ex08", b"8()", &[], 1000);
-    show(b"ex09", b"9()", &[], 1000);
-    show(b"ex10", b"10()", &[], 1000);
-    show(b"ex11", b"11(7, -2)", &[7, 4294967294], 1000);
+// What the bundle in a file comes to, or a line of what failed on standard error.
+fn show(
+    rt: &(impl Files + Print + Eprint),
+    path: &str,
+    what: &str,
+    args: &[u32],
+    budget: u32,
+) -> io::Result<()> {
+    let mut bundle = [0u8; 4096];
+    match read_file(rt, path, &mut bundle) {
+        Ok(n) => print_told(rt, what, run_first(&bundle[..n], args, budget)),
+        Err(e) => eprintln!(rt; "{path}: {e}"),
+    }
+}
+
+fn main(rt: HostRuntime) -> io::Result<()> {
+    println!(rt; "run\trefusal\tend\tvalue\tcount\tcells")?;
+    show(&rt, "ex01", "1()", &[], 1000)?;
+    show(&rt, "ex01", "1(), budget 1", &[], 1)?;
+    show(&rt, "ex02", "2()", &[], 1000)?;
+    show(&rt, "ex03", "3()", &[], 1000)?;
+    show(&rt, "ex06", "6()", &[], 1000)?;
+    show(&rt, "ex06b", "6(), with the frame", &[], 1000)?;
+    show(&rt, "ex07", "7(0)", &[0], 1000)?;
+    show(&rt, "ex07", "7(5)", &[5], 1000)?;
+    show(&rt, "ex07b", "7(0), without the frame", &[0], 1000)?;
+    show(&rt, "ex08", "8()", &[], 1000)?;
+    show(&rt, "ex09", "9()", &[], 1000)?;
+    show(&rt, "ex10", "10()", &[], 1000)?;
+    show(&rt, "ex11", "11(7, -2)", &[7, 4294967294], 1000)?;
     show(
-        b"ex11",
-        b"11(-2147483648, -1)",
+        &rt,
+        "ex11",
+        "11(-2147483648, -1)",
         &[2147483648, 4294967295],
         1000,
-    );
-    show(b"ex11", b"11(1, 0)", &[1, 0], 1000);
-    show(b"ex01", b"1(), budget 1000001", &[], 1000001);
-    show(b"empty", b"no bytes", &[], 1000);
-    show(b"ex07", b"7()", &[], 1000);
+    )?;
+    show(&rt, "ex11", "11(1, 0)", &[1, 0], 1000)?;
+    show(&rt, "ex01", "1(), budget 1000001", &[], 1000001)?;
+    show(&rt, "empty", "no bytes", &[], 1000)?;
+    show(&rt, "ex07", "7()", &[], 1000)
 }

@@ -1,49 +1,104 @@
 // Reads the bundles that its arguments name: for each a line of its name and its verdict's four numbers, parted by tabs.
 #![tactic(auto)]
 
-use libc::STDOUT_FILENO;
-use reader::outlet;
+ghost use Rattle.std.specs.Prelude.{◌≤◌, length, IfOk, IfSome};
 
-fn print_number(n: usize) {
-    io::write_all(STDOUT_FILENO, &[b'\t']);
-    io::print_decimal(STDOUT_FILENO, n as u64);
+use reader::outlet::{self, Answer};
+use std::env::FillError;
+use std::io::Read;
+use std::rt::{Env, Files};
+use std::{fs, io};
+
+fn report(out: &impl Print, path: &[u8], bundle: &[u8], scratch: &mut [u8]) -> io::Result<()> {
+    let Answer {
+        number,
+        class,
+        method,
+        place,
+    } = outlet::judge(bundle, scratch);
+    out.write_all(path)?;
+    println!(out; "\t{number}\t{class}\t{method}\t{place}")
 }
 
-fn report(path: &[u8], bundle: &[u8], scratch: &mut [u8]) {
-    let a = outlet::judge(bundle, scratch);
-    io::write_all(STDOUT_FILENO, path);
-    print_number(a.number);
-    print_number(a.class);
-    print_number(a.method);
-    print_number(a.place);
-    io::write_all(STDOUT_FILENO, &[b'\n']);
-}
-
-fn read_one(i: usize, bundle: &mut [u8], scratch: &mut [u8]) {
-    let mut path = io::buffer();
-    let n = os::arg(i, &mut path);
-    let fd = os::open_read(&path[..n]);
-    if fd < 0 {
-        os::fail(&path[..n]);
-        return;
+// Reads until the buffer is full or the input ends.
+fn read_full(input: &mut impl Read, buf: &mut [u8]) -> io::Result<usize>
+    ensures { IfOk result (λ n. n ≤ length buf.new) }
+{
+    let mut done = 0;
+    while done < buf.len() {
+        let n = input.read(&mut buf[done..])?;
+        if n == 0 {
+            break;
+        }
+        done += n;
     }
-    let k = io::read_full(fd, bundle);
-    libc::close(fd);
-    report(&path[..n], &bundle[..k], scratch);
+    Ok(done)
 }
 
-fn read_all(bundle: &mut [u8], scratch: &mut [u8]) {
-    let count = os::arg_count();
-    let mut i = 1;
-    while i < count {
-        read_one(i, bundle, scratch);
-        i += 1;
+// A name that is not UTF-8 opens no file, since paths are text.
+fn open<R: Files>(files: &R, path: &[u8]) -> io::Result<R::File> {
+    match str::from_utf8(path) {
+        Ok(name) => fs::open(files, name),
+        Err(_) => Err(io::Error::from(io::ErrorKind::InvalidFilename)),
     }
+}
+
+fn read_file(files: &impl Files, path: &[u8], bundle: &mut [u8]) -> io::Result<usize>
+    ensures { IfOk result (λ n. n ≤ length bundle.new) }
+{
+    let mut file = open(files, path)?;
+    read_full(&mut file, bundle)
+}
+
+// A line of what failed: the file's name, a colon and the error.
+fn complain(errors: &impl Print, path: &[u8], e: io::Error) -> io::Result<()> {
+    errors.write_all(path)?;
+    println!(errors; ": {e}")
+}
+
+fn read_one(
+    rt: &(impl Files + Print),
+    errors: &impl Print,
+    path: &[u8],
+    bundle: &mut [u8],
+    scratch: &mut [u8],
+) -> io::Result<()> {
+    match read_file(rt, path, bundle) {
+        Ok(n) => report(rt, path, &bundle[..n], scratch),
+        Err(e) => complain(errors, path, e),
+    }
+}
+
+// How long the argument is. One that is too long for a path counts as an empty name, which opens no file.
+fn argument(env: &impl Env, i: usize, path: &mut [u8]) -> Option<usize>
+    ensures { IfSome result (λ n. n ≤ length path.new) }
+{
+    match env.arg(i, path) {
+        Ok(n) => Some(n),
+        Err(FillError::TooLong) => Some(0),
+        Err(FillError::NotPresent) => None,
+    }
+}
+
+fn read_all(
+    rt: &(impl Env + Files + Print),
+    errors: &impl Print,
+    bundle: &mut [u8],
+    scratch: &mut [u8],
+) -> io::Result<()> {
+    let mut path = [0u8; 4096];
+    for i in 1..usize::MAX {
+        let Some(n) = argument(rt, i, &mut path) else {
+            break;
+        };
+        read_one(rt, errors, &path[..n], bundle, scratch)?;
+    }
+    Ok(())
 }
 
 // A byte more than a bundle may have, so that a longer one is seen as such.
-fn main() {
+fn main(rt: HostRuntime) -> io::Result<()> {
     let mut bundle = [0u8; 65537];
     let mut scratch = [0u8; 262144];
-    read_all(&mut bundle, &mut scratch);
+    read_all(&rt, &rt.stderr(), &mut bundle, &mut scratch)
 }
