@@ -3,7 +3,7 @@ use Rattle.std.specs.Prelude.{ℕ, ◌+◌, ◌-◌, ◌*◌, ◌^◌, ◌<◌, 
 use Rattle.std.proofs.Common.{sym, subst, ◌∙◌, arith}
 use Rattle.std.proofs.Math.Path.{ap}
 use Rattle.kit.specs.Words.{word, put_word, word_same}
-use Rattle.texts.specs.Reading.{Res, ok, pre, many, num2_at, short_at, u2}
+use Rattle.texts.specs.Reading.{Res, ok, pre, many, num2_at, short_at}
 use Rattle.texts.specs.Answers.{res, res_as, no_ok, t_ok, t_stop, no_value}
 use Rattle.texts.specs.Ends.{Ends, ends_of, kept_ends, cond_ends, num2_ends}
 use Rattle.classfiles.specs.Loops.{pre_nil, many_done, many_stop, many_next}

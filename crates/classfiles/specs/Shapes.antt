@@ -3,7 +3,7 @@ use Prim.Native.Nat.{ℕ, zero, suc, ◌+◌, ◌-◌, ◌<◌, ◌≤◌}
 use Rattle.std.specs.Prelude.{◌≡◌, Bool, not, get_or, ltb}
 use Rattle.std.proofs.Math.Path.{refl, sym, ap}
 use Rattle.std.proofs.Common.{◌∙◌}
-use mathlib.Core.List.{List, [], ◌∷◌, ◌++◌}
+use mathlib.Core.List.{List, [], ◌∷◌}
 use Rattle.std.proofs.Math.Bool.{true, false, cond}
 use native.Mathlib.Omega.{arith}
 use Rattle.std.proofs.Math.ListN.{length, get_or-eq_default}
@@ -12,10 +12,10 @@ use borrow.Author.Tests.{ltb-true, ltb-false, eqb-true, not-true, not-false}
 use Rattle.kit.specs.Scan.{first_ge}
 use Rattle.classfiles.specs.Limits.{max_dimensions}
 use Rattle.texts.specs.Reading.{Res, ok, bad, and_then, pre, part}
-use Rattle.texts.specs.Answers.{res, t_ok, t_stop, no_ok}
+use Rattle.texts.specs.Answers.{res, t_ok, t_stop}
 use Rattle.texts.specs.Names.{Text, class_name}
 use Rattle.texts.specs.declared.items.Got.{Got}
-use Rattle.classfiles.specs.Descriptors.{Ref, cls, arr, Desc, dint, dref, MethodType, method_type, in_name, semicolon, named_at, base_at, type_at, params_at, results_at, whole, field_type_at, method_type_at, as_ref, class_type_at}
+use Rattle.classfiles.specs.Descriptors.{cls, arr, Desc, dint, dref, MethodType, method_type, in_name, semicolon, named_at, base_at, type_at, params_at, results_at, whole, field_type_at, method_type_at, as_ref, class_type_at}
 
 -- how many parameters and results
 pub record Arity : Type 0 where

@@ -17,10 +17,10 @@ use Rattle.kit.specs.Words.{word, word-part, word-take}
 use Rattle.classfiles.specs.Limits.{max_fields, max_methods, max_pool_count}
 use Rattle.texts.specs.Reading.{u2_at, u4_at, part}
 use Rattle.texts.specs.Names.{Text}
-use Rattle.classfiles.specs.Descriptors.{Desc, field_type_at}
+use Rattle.classfiles.specs.Descriptors.{field_type_at}
 use Rattle.classfiles.specs.Shapes.{inside}
 use Rattle.classfiles.specs.Pool.{Constant, absent, utf8, integer, class_at, fieldref, methodref, name_and_type, constant_at, entry, text}
-use Rattle.classfiles.specs.Table.{pool_in, entry_in, constant_of, Inside, IsText, entry_none, entry_past, entry_in_lem}
+use Rattle.classfiles.specs.Table.{pool_in, entry_in, constant_of, IsText, entry_none, entry_past, entry_in_lem}
 use Rattle.classfiles.specs.Attributes.{member_of}
 use Rattle.classfiles.specs.Bundle.{ClassFile}
 use Rattle.reader.specs.BuiltIns.{BuiltIn, built_ins, first_class}
@@ -28,7 +28,7 @@ use Rattle.reader.specs.Program.{Program, Signature, Field, Class, no_field, cla
 use Rattle.classfiles.specs.Blocks.{block_size, pool_word, pool_of, row_in, class_in}
 use Rattle.reader.specs.Numbers.{part-block}
 use Rattle.reader.specs.Linked.{files_in}
-use Rattle.reader.specs.MemberRows.{block_at, rows_word, row_start, row_count, row_at, row_sig}
+use Rattle.reader.specs.MemberRows.{block_at, row_start, row_count, row_at, row_sig}
 use Rattle.reader.specs.Lookup.{own_spot, class-at, class_past, class-count, built_in_class}
 use Rattle.reader.specs.MemberAt.{field_at, fields-count}
 use Rattle.reader.specs.TypeCodes.{desc_of, number_by}

@@ -2,7 +2,7 @@
 use Prim.Native.Nat.{ℕ, zero, suc, ◌+◌, ◌-◌, ◌*◌, ◌/◌, ◌%◌, ◌<◌, ◌≤◌}
 use Rattle.std.specs.Prelude.{◌≡◌, not, ltb, set, drop}
 use Rattle.std.proofs.Math.Path.{refl, sym, ap}
-use Rattle.std.proofs.Common.{subst, ◌∙◌, take-take, drop-drop, drop-set-lt}
+use Rattle.std.proofs.Common.{◌∙◌, take-take, drop-drop, drop-set-lt}
 use mathlib.Core.List.{List, [], ◌∷◌, ◌++◌, append-nil}
 use Rattle.std.proofs.Math.Bool.{Bool, true, false, cond}
 use native.Mathlib.Omega.{arith}
@@ -14,9 +14,9 @@ use borrow.Author.Tests.{eq-eqb, ne_eqb, lt-ltb, le-ltb, not-true, not-false}
 use Rattle.kit.specs.Bools.{not_so}
 use Rattle.classfiles.specs.Limits.{max_parameters, max_dimensions}
 use Rattle.texts.specs.Reading.{Res, ok, bad, and_then, pre}
-use Rattle.texts.specs.Names.{Text, class_name}
+use Rattle.texts.specs.Names.{Text}
 use Rattle.texts.specs.Answers.{res_as, is_ok_lem, is_bad, no_ok, no_bad, as_bad}
-use Rattle.classfiles.specs.Descriptors.{Ref, cls, arr, Desc, dint, dref, MethodType, method_type, named_at, base_at, type_at, params_at, results_at, whole, field_type_at, method_type_at, as_ref, class_type_at, known_ref, known_desc}
+use Rattle.classfiles.specs.Descriptors.{cls, arr, Desc, dint, dref, MethodType, method_type, named_at, base_at, type_at, params_at, results_at, whole, field_type_at, method_type_at, as_ref, class_type_at, known_ref, known_desc}
 use Rattle.classfiles.specs.Shapes.{seen}
 use Rattle.classfiles.specs.Blocks.{listed, classes_in}
 use Rattle.classfiles.specs.BlockWords.{listed_same, listed_next, length-listed}

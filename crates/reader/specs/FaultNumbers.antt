@@ -1,15 +1,14 @@
 -- No phase before C refuses with a number above 9. Assumes nothing.
 use Prim.Native.Nat.{ℕ, zero, suc, ◌≤◌}
-use Rattle.std.specs.Prelude.{◌≡◌, refl, List, [], ◌∷◌, ◌++◌, Bool, true, false, cond, length}
-use Rattle.std.proofs.Common.{sym, ap, ◌∙◌, arith}
-use Rattle.kit.specs.Claims.{Claim, claim, Ruling, pass, fail, verdict, then}
-use Rattle.classfiles.specs.Limits.{max_dimensions, max_stack_limit, max_locals_limit, max_table_entries, max_classes, max_fields, max_methods}
-use Rattle.reader.specs.Verdicts.{fault, Refusal, in_class, in_bundle, Verdict, each}
+use Rattle.std.specs.Prelude.{List, [], ◌∷◌, ◌++◌, Bool, true, false, cond, length}
+use Rattle.std.proofs.Common.{arith}
+use Rattle.kit.specs.Claims.{Claim, claim, pass, fail, verdict, then}
+use Rattle.reader.specs.Verdicts.{Refusal, Verdict, each}
 use Rattle.texts.specs.Reading.{Res, ok, bad, and_then, pre, many, sum_at, num2_at, num4_at, skip_at, short_at, u2, u4}
 use Rattle.texts.specs.Names.{Text}
-use Rattle.classfiles.specs.Descriptors.{Desc, dint, dref, MethodType, named_at, base_at, type_at, params_at, results_at, whole, field_type_at, method_type_at, as_ref, class_type_at, semicolon}
-use Rattle.classfiles.specs.Pool.{Constant, absent, utf8, integer, class_at, fieldref, methodref, name_and_type, entry, text, res_fault, name_fault, pair_fault, constant_fault, entry_fault, utf8_at, fixed_at, entry_at, judged_at, checked_at, tags_at, pool_at, utf8_index_at, class_index_at}
-use Rattle.classfiles.specs.Members.{another, inner_at, inners_at, code_at, handler_at, table_at, body_at, attribute_at, attributes_at, access_at, name_at, method_type_ok, descriptor_at, member_at, Member}
+use Rattle.classfiles.specs.Descriptors.{Desc, dint, dref, MethodType, named_at, base_at, type_at, params_at, results_at, whole, field_type_at, method_type_at, as_ref, class_type_at}
+use Rattle.classfiles.specs.Pool.{Constant, absent, utf8, integer, class_at, fieldref, methodref, name_and_type, entry, res_fault, name_fault, pair_fault, constant_fault, entry_fault, utf8_at, fixed_at, entry_at, judged_at, checked_at, tags_at, pool_at, utf8_index_at, class_index_at}
+use Rattle.classfiles.specs.Members.{inner_at, inners_at, code_at, handler_at, table_at, body_at, attribute_at, attributes_at, access_at, name_at, method_type_ok, descriptor_at, member_at}
 use Rattle.classfiles.specs.Bundle.{ClassFile, magic_at, version_at, class_access_at, this_at, super_at, interfaces_at, members_at, class_file_at, class_files_at, bundle_at}
 use Rattle.reader.specs.Program.{Program, program_of}
 use Rattle.reader.specs.Link.{unique_class, super_claims, chain_claims, field_claims, method_claims, member_claims, linked, Read, refused, program, or_refused, read_as, read_bundle}

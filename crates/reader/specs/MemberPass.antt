@@ -3,7 +3,7 @@ use Rattle.std.specs.Prelude.{ℕ, ◌+◌, ◌-◌, ◌*◌, ◌^◌, ◌<◌, 
 use Rattle.std.proofs.Math.Path.{sym, ap}
 use Rattle.std.proofs.Common.{subst, ◌∙◌, arith, ne_eqb}
 use Rattle.std.proofs.Math.Bool.{false}
-use Rattle.kit.specs.Claims.{pass, fail, verdict, then, pass_then, fail_then, verdict-append}
+use Rattle.kit.specs.Claims.{fail, verdict, then, pass_then, fail_then, verdict-append}
 use Rattle.reader.specs.Verdicts.{fault, in_class, Verdict, each}
 use Rattle.texts.specs.Names.{Text}
 use Rattle.classfiles.specs.Descriptors.{field_type_at, known_desc}

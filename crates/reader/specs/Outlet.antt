@@ -1,15 +1,15 @@
 -- What a call of the reader answers and leaves, on every path, and its result in bytes.
-use Rattle.std.specs.Prelude.{ℕ, ◌+◌, ◌*◌, ◌%◌, ◌/◌, ◌≤◌, ◌<◌, ◌^◌, ◌≡◌, refl, Bool, true, false, cond, List, [], ◌∷◌, ◌++◌, ltb, eqb, length, get_or, replicate}
+use Rattle.std.specs.Prelude.{ℕ, ◌+◌, ◌*◌, ◌%◌, ◌/◌, ◌≤◌, ◌<◌, ◌^◌, ◌≡◌, refl, true, false, cond, List, [], ◌∷◌, ◌++◌, ltb, eqb, length, get_or, replicate}
 use Rattle.std.proofs.Math.Path.{sym}
 use Rattle.std.proofs.Common.{ap, subst, ◌∙◌, lt-ltb, le-ltb, eq-eqb, ne_eqb}
 use native.Mathlib.Omega.{arith}
 use Rattle.kit.specs.Claims.{pass, fail}
 use Rattle.kit.specs.Words.{put_word}
 use Rattle.classfiles.specs.Limits.{scratch_size, unnamed}
-use Rattle.reader.specs.Verdicts.{fault, Refusal, in_bundle, in_method, Verdict, numbers}
+use Rattle.reader.specs.Verdicts.{fault, in_bundle, in_method, Verdict, numbers}
 use Rattle.reader.specs.Link.{Read, refused, program, read_bundle}
 use Rattle.reader.specs.FaultNumbers.{LowRead, read_low}
-use Rattle.reader.specs.Whole.{read_of, IsReading}
+use Rattle.reader.specs.Whole.{IsReading}
 use Rattle.reader.specs.declared.whole.Reading.{Reading}
 use Rattle.reader.specs.declared.outlet.Answer.{Answer}
 

@@ -1,18 +1,13 @@
 -- Types as codes of one byte, brackets + 8 * base: what a code stands for, and the methods' types as they are kept. Assumes nothing.
-use Rattle.std.specs.Prelude.{ℕ, zero, suc, ◌+◌, ◌-◌, ◌*◌, ◌/◌, ◌%◌, ◌<◌, ◌≤◌, ◌≡◌, refl, List, [], ◌∷◌, ◌++◌, Bool, true, false, cond, not, ltb, eqb, length, get_or, set, take, drop}
-use Rattle.std.proofs.Common.{sym, ap, subst, ◌∙◌, arith, eq-eqb, ne_eqb}
-use Rattle.std.proofs.lemmas.Bool.{not-true, not-false}
-use Rattle.classfiles.specs.Limits.{max_parameters, max_dimensions}
-use Rattle.texts.specs.Reading.{Res, ok, bad, and_then, pre, part}
+use Rattle.std.specs.Prelude.{ℕ, zero, suc, ◌+◌, ◌*◌, ◌/◌, ◌%◌, ◌≤◌, ◌≡◌, List, [], ◌∷◌, ◌++◌, Bool, true, false, cond, ltb, eqb, length, get_or, take, drop}
+use Rattle.classfiles.specs.Limits.{max_parameters}
+use Rattle.texts.specs.Reading.{ok, bad, pre}
 use Rattle.texts.specs.Names.{Text}
-use Rattle.texts.specs.Answers.{res_as}
-use Rattle.classfiles.specs.Descriptors.{Ref, cls, arr, Desc, dint, dref, MethodType, method_type_at, named_at, base_at, type_at, params_at, known_ref, known_desc}
-use Rattle.classfiles.specs.Shapes.{seen}
+use Rattle.classfiles.specs.Descriptors.{Ref, cls, arr, Desc, dint, dref, method_type_at, params_at, known_desc}
 use Rattle.classfiles.specs.Blocks.{listed}
-use Rattle.reader.specs.Program.{Program, number_in, class_names, method_type_or, program_of}
+use Rattle.reader.specs.Program.{number_in, class_names, method_type_or, program_of}
 use Rattle.reader.specs.Link.{all_known}
 use Rattle.reader.specs.Linked.{files_in}
-use Rattle.texts.specs.declared.items.Got.{Got}
 use Rattle.reader.specs.declared.types.Listed.{Listed}
 
 -- ---- codes

@@ -3,7 +3,7 @@ use Rattle.classfiles.specs.Bundle.{class_files_at}
 use Rattle.classfiles.specs.Blocks.{block_size}
 use Rattle.texts.specs.Answers.{no_value}
 use native.Mathlib.Omega.{arith}
-use Prim.Native.Nat.{◌-◌, ◌*◌, ◌≤◌}
+use Prim.Native.Nat.{◌*◌, ◌≤◌}
 use lib.ListN.{length}
 use mathlib.Core.Path.{◌≡◌, refl, ◌∙◌}
 use Rattle.classfiles.proofs.bundle.class_files.Goals as goal

@@ -1,7 +1,6 @@
 use Rattle.classfiles.specs.MemberEnds.{member_end}
 use Rattle.classfiles.specs.Sections.{member_is, rows_start, rows_done, rows_stop, rows_more, rows_below}
 use native.Mathlib.Omega.{arith}
-use Prim.Native.Nat.{◌-◌}
 use mathlib.Core.Path.{refl, ◌∙◌}
 use Rattle.classfiles.proofs.bundle.rows.Goals as goal
 

@@ -1,6 +1,5 @@
 use Rattle.kit.specs.Pick.{same}
 use Rattle.kit.specs.Scan.{scans}
-use Prim.Native.Nat.{◌-◌}
 use native.Mathlib.Omega.{arith}
 use Rattle.classfiles.specs.Descriptors.{semicolon}
 use Rattle.classfiles.proofs.descriptors.semicolon.Goals as goal

@@ -1,7 +1,6 @@
 use native.Mathlib.Omega.{arith}
 use mathlib.Core.Path.{refl}
 use Rattle.classfiles.specs.Pool.{entry_at}
-use Prim.Native.Nat.{◌-◌}
 use Rattle.kit.specs.Words.{length_put}
 use Rattle.classfiles.specs.Table.{put_next, put_done, entry_val}
 use Rattle.classfiles.specs.Loops.{many_stop}

@@ -2,7 +2,6 @@ use mathlib.Core.Path.{refl}
 use Rattle.classfiles.specs.Faults.{faults_start}
 use native.Mathlib.Omega.{arith}
 use Rattle.kit.specs.Scan.{scans}
-use Prim.Native.Nat.{◌-◌}
 use Rattle.classfiles.proofs.pool.first_fault.Goals as goal
 
 pub loop-i-init : goal.loop-i-init

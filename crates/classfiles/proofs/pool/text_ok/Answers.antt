@@ -1,7 +1,6 @@
 use native.Mathlib.Omega.{arith}
 use Rattle.classfiles.specs.Table.{text_by}
 use Rattle.kit.specs.Scan.{alls}
-use Prim.Native.Nat.{◌-◌}
 use Rattle.classfiles.proofs.pool.text_ok.Goals as goal
 
 pub loop-i-init : goal.loop-i-init

@@ -1,7 +1,6 @@
 use native.Mathlib.Omega.{arith}
 use Rattle.reader.specs.Numbers.{other_name, number_first}
 use Rattle.kit.specs.Scan.{first_not, scans}
-use Prim.Native.Nat.{◌-◌}
 use mathlib.Core.Path.{◌≡◌, ◌∙◌}
 use Rattle.reader.proofs.link.find.Goals as goal
 

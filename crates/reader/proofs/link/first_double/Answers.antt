@@ -1,6 +1,5 @@
 use native.Mathlib.Omega.{arith}
 use Rattle.kit.specs.Scan.{scans}
-use Prim.Native.Nat.{◌-◌}
 use Rattle.reader.proofs.link.first_double.Goals as goal
 
 pub loop-i-init : goal.loop-i-init

@@ -1,6 +1,5 @@
 use native.Mathlib.Omega.{arith}
 use Rattle.reader.specs.Linked.{files_in, front_length, parent_is, parents_done, parents_more, blocks_kept}
-use Prim.Native.Nat.{◌-◌}
 use mathlib.Core.Path.{refl, ◌∙◌}
 use Rattle.reader.specs.Program.{program_of}
 use Rattle.reader.proofs.link.parents.Goals as goal

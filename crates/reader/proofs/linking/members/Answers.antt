@@ -1,6 +1,5 @@
 use Rattle.reader.specs.MemberPass.{members_start, members_ready, members_fault, members_next, members_done}
 use native.Mathlib.Omega.{arith}
-use Prim.Native.Nat.{◌-◌}
 use mathlib.Core.Path.{◌∙◌}
 use Rattle.reader.proofs.linking.members.Goals as goal
 

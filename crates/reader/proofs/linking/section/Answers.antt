@@ -1,7 +1,6 @@
 use mathlib.Core.Path.{◌∙◌}
 use Rattle.reader.specs.MemberPass.{ready-class, section_start, section_ready, section_row, section_asked, section_fault, section_next, section_done}
 use native.Mathlib.Omega.{arith}
-use Prim.Native.Nat.{◌-◌}
 use Rattle.reader.proofs.linking.section.Goals as goal
 
 pub member_count-k-requires : goal.member_count-k-requires

@@ -1,6 +1,5 @@
 use Rattle.reader.specs.Prints.{prints_none, prints_few, fields-count, prints_more, all_printed}
 use native.Mathlib.Omega.{arith}
-use Prim.Native.Nat.{◌-◌}
 use mathlib.Core.Path.{refl}
 use mathlib.Core.Bool.{false}
 use Rattle.reader.proofs.printing.print_all.Goals as goal

@@ -1,6 +1,5 @@
 use Rattle.reader.specs.Prints.{rows_none, rows_more, rows_done}
 use native.Mathlib.Omega.{arith}
-use Prim.Native.Nat.{◌-◌}
 use Rattle.reader.proofs.printing.print_rows.Goals as goal
 
 pub member_count-n-requires : goal.member_count-n-requires

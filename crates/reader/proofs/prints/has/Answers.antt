@@ -1,6 +1,5 @@
 use Rattle.reader.specs.Prints.{has_start, has_next, has_end}
 use native.Mathlib.Omega.{arith}
-use Prim.Native.Nat.{◌-◌}
 use Rattle.reader.proofs.prints.has.Goals as goal
 
 pub loop-i-init : goal.loop-i-init

@@ -1,6 +1,5 @@
 use Rattle.reader.specs.Prints.{words_start, words_next, words_end, print_last}
 use native.Mathlib.Omega.{arith}
-use Prim.Native.Nat.{◌-◌}
 use Rattle.reader.proofs.prints.text_print.Goals as goal
 
 pub loop-i-init : goal.loop-i-init

@@ -1,6 +1,5 @@
 use Rattle.kit.specs.Scan.{scans}
 use native.Mathlib.Omega.{arith}
-use Prim.Native.Nat.{◌-◌}
 use Rattle.reader.proofs.signature.first_row.Goals as goal
 
 pub loop-i-init : goal.loop-i-init

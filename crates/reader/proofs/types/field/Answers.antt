@@ -1,7 +1,6 @@
 use Rattle.reader.specs.CodeLaws.{code_start, code_last, code_here, code_next}
 use native.Mathlib.Omega.{arith}
 use Rattle.kit.specs.Pick.{same}
-use Prim.Native.Nat.{◌-◌}
 use Rattle.reader.proofs.types.field.Goals as goal
 
 pub loop-left-init : goal.loop-left-init
