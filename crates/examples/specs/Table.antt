@@ -1,13 +1,10 @@
 -- Document 01's examples at the edges, those marked P: one table under a single claim, over whole bundles in bytes.
-use Rattle.std.specs.Prelude.{ℕ, ◌≡◌, refl, true, List, [], ◌∷◌, ◌++◌}
+use Rattle.std.specs.Prelude.{ℕ, ◌≡◌, true, List, [], ◌∷◌, ◌++◌}
 use Rattle.std.proofs.Common.{ap, ◌∙◌}
 use Rattle.classfiles.specs.Limits.{unnamed}
 use Rattle.reader.specs.Verdicts.{numbers}
-use Rattle.reader.specs.Computing.{reading}
 use Rattle.shaping.specs.Verify.{verdict_of}
-use Rattle.verifier.specs.Computing.{verifying}
 use Rattle.plain.specs.Run.{Lent, sizes_ok, answer_of, answer_numbers, no_verdict, run_of}
-use Rattle.plain.specs.Computing.{running}
 use Rattle.plain.specs.Laws.{run-answer}
 use Rattle.examples.specs.Assemble.{no_frames, frames, static, constructor, no_arguments, object_name}
 
@@ -105,11 +102,3 @@ runs s (r ∷ rs) a = (one, runs s rs a.1)
 pub holds : (cs : List Case) → Computes cs → Holds cs
 holds [] p = tt
 holds (c ∷ cs) p = (p.0, runs c.bytes c.runs p.1, holds cs p.2)
-
-computed : Computes examples
-unfolding reading verifying running
-computed =
-    (refl, (refl, (refl, tt)), (refl, tt, (refl, tt, (refl, tt, (refl, (refl, tt), (refl, (refl, (refl, tt)), (refl, tt, (refl, tt, (refl, tt, (refl, tt, tt))))))))))
-
-pub examples_hold : Holds examples
-examples_hold = holds examples computed

@@ -1,3 +1,3 @@
-// Document 01's examples, proved as one table: specs/ alone.
+// Document 01's examples, proved as one table: the table in specs/, its theorem in proofs/.
 
 #![tactic(auto)]

@@ -1,9 +1,8 @@
--- The opcode table as 768 numbers, three an opcode, and that they say what the listed ranges say. Assumes nothing.
+-- The opcode table as 768 numbers, three an opcode, and what it is for them to say what the listed ranges say. Assumes nothing.
 use Rattle.std.specs.Prelude.{ℕ, ◌+◌, ◌*◌, ◌<◌, ◌≤◌, ◌≡◌, refl, Bool, true, false, cond, ◌&&◌, List, [], ◌∷◌, eqb, ltb, leb, get_or}
-use Rattle.std.proofs.Common.{arith, eqb-true, ltb-true}
+use Rattle.std.proofs.Common.{arith, ltb-true}
 use Rattle.std.proofs.lemmas.Bool.{lt-leb}
 use Rattle.kit.specs.Bools.{both_left, both_right}
-use Rattle.kit.specs.Rows.{every, row}
 use Rattle.rules.specs.Instruction.{illegal}
 use Rattle.rules.specs.Opcodes.{Row, Operands, rows, within, row_in, row_of, length_of, taken_of, left_of}
 use Rattle.rules.specs.Opcodes as opcodes
@@ -44,31 +43,14 @@ table =
     ∷ 0 ∷ 0 ∷ 0 ∷ 0 ∷ 0 ∷ 0 ∷ 0 ∷ 0 ∷ 0 ∷ 0 ∷ 0 ∷ 0 ∷ 0 ∷ 0 ∷ 0 ∷ 0 ∷ 0 ∷ 0 ∷ 0 ∷ 0 ∷ 0 ∷ 0 ∷ 0 ∷ 0
     ∷ []
 
-right : ℕ → ℕ → ℕ → ℕ → Bool
+unfoldable pub right : ℕ → ℕ → ℕ → ℕ → Bool
 right op n t l = eqb n (length_of (row_of op)) && (eqb t (taken_of (row_of op)) && eqb l (left_of (row_of op)))
-
-passes : every right 0 256 table ≡ true
-unfolding table right rows row_in row_of
-passes = refl
 
 -- what the three numbers of an opcode byte are
 pub record Right (op : ℕ) : Type 0 where
   pub length : get_or table (3 * op) 0 ≡ length_of (row_of op)
   pub taken : get_or table (3 * op + 1) 0 ≡ taken_of (row_of op)
   pub left : get_or table (3 * op + 2) 0 ≡ left_of (row_of op)
-
-pub rule : (op : ℕ) → op < 256 → Right op
-unfolding right
-rule op h =
-    let a : Bool = eqb (get_or table (3 * op) 0) (length_of (row_of op)) in
-    let b : Bool = eqb (get_or table (3 * op + 1) 0) (taken_of (row_of op)) in
-    let d : Bool = eqb (get_or table (3 * op + 2) 0) (left_of (row_of op)) in
-    let t : (a && (b && d)) ≡ true = row right 256 table passes op h in
-    record {
-      length = eqb-true _ _ (both_left a (b && d) t);
-      taken = eqb-true _ _ (both_left b d (both_right a (b && d) t));
-      left = eqb-true _ _ (both_right b d (both_right a (b && d) t));
-    }
 
 -- no range reaches past 255
 bytes : List Row → Bool

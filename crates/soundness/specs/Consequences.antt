@@ -1,27 +1,21 @@
--- What demand 3 names, each by itself, of every machine that the run of an accepted bundle comes through.
-use Rattle.std.specs.Prelude.{ℕ, zero, suc, ◌+◌, ◌<◌, ◌≤◌, ◌≡◌, refl, Bool, true, false, cond, length, drop}
+-- What demand 3 names, each by itself, of a machine in good order.
+use Rattle.std.specs.Prelude.{ℕ, zero, suc, ◌<◌, ◌≤◌, ◌≡◌, refl, Bool, true, false, cond, length, drop}
 use mathlib.Core.List.{List, [], ◌∷◌}
 use Rattle.std.proofs.Common.{arith, leb→le, ltb→lt}
 use Rattle.std.proofs.Math.Dec.{T, eqb_refl}
-use Rattle.kit.specs.Claims.{pass}
-use Rattle.reader.specs.BuiltIns.{first_class, object}
+use Rattle.reader.specs.BuiltIns.{object}
 use Rattle.classfiles.specs.Descriptors.{Ref, Desc, cls, arr, dref}
 use Rattle.reader.specs.Program.{Program, Method, method}
-use Rattle.reader.specs.Link.{program}
 use Rattle.rules.specs.Instruction.{Instr, nop, aconstnull, pop, dup, dupx1, swap, ineg, arraylength, iaload, aaload, iastore, aastore, athrow, ireturn, areturn, return, iconst, iload, aload, istore, astore, goto, new, iinc, ibin, idiv, ifint, ificmp, ifacmp, ifnull, getfield, putfield, invokevirtual, invokespecial, invokestatic, newarray, checkcast, instanceof, illegal, unresolved}
 use Rattle.rules.specs.Opcodes.{body, code_of, instruction}
 use Rattle.rules.specs.Types.{Key, Ty, top, int, null, ini, uninit, object_ty, is_array, fits, ref_fits}
 use Rattle.rules.specs.States.{State, state, top_of}
 use Rattle.rules.specs.Rule.{rule, calling, constructing}
-use Rattle.shaping.specs.Verify.{read_shaped, verdict_of}
 use Rattle.plain.specs.Heap.{Heap, Val, empty, num, ref, ready_at, is_num, value_fits}
 use Rattle.plain.specs.Machine.{call, Machine, machine, heap_of, Result, next, stopped, stuck}
 use Rattle.plain.specs.Step.{step}
-use Rattle.plain.specs.Run.{is_entry, started}
 use Rattle.facts.specs.Base.{first_of, second_of, both_of}
 use Rattle.facts.specs.Classes.{Link}
-use Rattle.facts.specs.Linking.{linking}
-use Rattle.soundness.specs.Accepted.{accepted}
 use Rattle.soundness.specs.Typing.{HTys, VT, vtop, vint, vnull, vnulc, vini, vraw, vdref, fit, Peeled, peeled, Popped, pnil, pcons}
 use Rattle.soundness.specs.Blocks.{HOK, fits_ok}
 use Rattle.soundness.specs.Walk.{Here as At}
@@ -29,8 +23,6 @@ use Rattle.soundness.specs.Inv.{Slots, typed, Inv, inv, Good, goes, ends, full, 
 use Rattle.soundness.specs.Steps.{Now, Sees}
 use Rattle.soundness.specs.Forms.{one, pops}
 use Rattle.soundness.specs.Calls.{Accepts}
-use Rattle.soundness.specs.Exec.{step_ok}
-use Rattle.soundness.specs.Theorem.{passing, entry, start_ok}
 
 -- the machines that a run comes through
 pub data Reached (P : Program) (K₀ : Machine) : Machine → Type 0 where
@@ -144,13 +136,13 @@ module _ {P : Program} {M : Method} {Ψ : HTys} {H : Heap} (hk : HOK P Ψ H) {d 
 
 -- a machine in good order
 module _ {P : Program} (L : Link P) (acc : Accepts P) (E : List Desc) where
-  order_code : {K : Machine} → Inv P E K → offset_of K < length (code_of (code_at P K))
+  pub order_code : {K : Machine} → Inv P E K → offset_of K < length (code_of (code_at P K))
   order_code (inv {c = c} {m} {o} Ψ fs hk gd t ck) = ltb→lt o (length (code_of (method P c m))) t.here.inside
 
-  order_room : {K : Machine} → Inv P E K → length (operands_of K) ≤ (body (code_at P K)).max_stack
+  pub order_room : {K : Machine} → Inv P E K → length (operands_of K) ≤ (body (code_at P K)).max_stack
   order_room (inv {c = c} {m} {vs = vs} Ψ fs hk gd t ck) = leb→le (length vs) (body (method P c m)).max_stack t.room
 
-  order_asked : {K : Machine} → Inv P E K → T (are_asked P (heap_of K) (takes P (code_at P K) (instruction P (code_at P K) (offset_of K))) (operands_of K))
+  pub order_asked : {K : Machine} → Inv P E K → T (are_asked P (heap_of K) (takes P (code_at P K) (instruction P (code_at P K) (offset_of K))) (operands_of K))
   order_asked (inv {H} {c} {m} {o} {q} {ls} {vs} {ks} Ψ fs hk gd t ck) = go t.slots t.here
     where
       go : {S : State} → Slots P (method P c m) Ψ (length ks) t.last q ls vs S → At P (method P c m) fs o S → T (are_asked P H (takes P (method P c m) (instruction P (method P c m) o)) vs)
@@ -168,7 +160,7 @@ module _ {P : Program} (L : Link P) (acc : Accepts P) (E : List Desc) where
   array_object (ini (arr D)) h = eqb_refl 0
   array_object (uninit k) h = absurd h
 
-  order_array : {K : Machine} → Inv P E K → instruction P (code_at P K) (offset_of K) ≡ arraylength → T (are_asked P (heap_of K) (object_ty ∷ []) (operands_of K))
+  pub order_array : {K : Machine} → Inv P E K → instruction P (code_at P K) (offset_of K) ≡ arraylength → T (are_asked P (heap_of K) (object_ty ∷ []) (operands_of K))
   unfolding rule
   order_array (inv {H} {c} {m} {o} {q} {ls} {vs} {ks} Ψ fs hk gd t ck) e = go t.slots t.here
     where
@@ -181,23 +173,19 @@ module _ {P : Program} (L : Link P) (acc : Accepts P) (E : List Desc) where
           on : {vs : List Val} → T (is_array (top_of s)) → Peeled (VT P (method P c m) Ψ (length ks) t.last) vs (top_of s) (drop 1 s) → T (are_asked P H (object_ty ∷ []) vs)
           on k (peeled z ts) = all_asked hk (pcons (fit L object_ty z (array_object (top_of s) k)) (pnil ts))
 
-  good_next : {r : Result} {K : Machine} → Good P E r → r ≡ next K → Inv P E K
+  pub good_next : {r : Result} {K : Machine} → Good P E r → r ≡ next K → Inv P E K
   good_next {K = K} (goes {K = K'} i) e = let z : K' ≡ K = cc in rw (← z) i
   good_next (ends x) e = let z : ◌≡◌ {A = ℕ} 0 1 = cc in absurd (omega arith)
   good_next full e = let z : ◌≡◌ {A = ℕ} 0 1 = cc in absurd (omega arith)
   good_next deep e = let z : ◌≡◌ {A = ℕ} 0 1 = cc in absurd (omega arith)
 
-  good-stuck : {r : Result} → Good P E r → r ≡ stopped stuck → ⊥
+  pub good-stuck : {r : Result} → Good P E r → r ≡ stopped stuck → ⊥
   good-stuck (goes i) e = let z : ◌≡◌ {A = ℕ} 0 1 = cc in omega arith
   good-stuck (ends x) e = let z : ◌≡◌ {A = ℕ} 0 1 = cc in omega arith
   good-stuck full e = let z : ◌≡◌ {A = ℕ} 0 1 = cc in omega arith
   good-stuck deep e = let z : ◌≡◌ {A = ℕ} 0 1 = cc in omega arith
 
-  reached_inv : {K₀ K : Machine} → Inv P E K₀ → Reached P K₀ K → Inv P E K
-  reached_inv i start = i
-  reached_inv i (onward r e) = good_next (step_ok L acc E (reached_inv i r)) e
-
-asked-length : (P : Program) (H : Heap) (us : List Ty) (vs : List Val) → T (are_asked P H us vs) → length us ≤ length vs
+pub asked-length : (P : Program) (H : Heap) (us : List Ty) (vs : List Val) → T (are_asked P H us vs) → length us ≤ length vs
 unfolding are_asked
 asked-length P H [] vs h = omega arith
 asked-length P H (u ∷ us) [] h = absurd h
@@ -209,7 +197,7 @@ fits-made P H t (num a) h = tt
 fits-made P H t (ref zero) h = tt
 fits-made P H t (ref (suc a)) h = first_of (ready_at H a) _ h
 
-asked-made : (P : Program) (H : Heap) (us : List Ty) (vs : List Val) → T (are_asked P H us vs) → T (all_made H us vs)
+pub asked-made : (P : Program) (H : Heap) (us : List Ty) (vs : List Val) → T (are_asked P H us vs) → T (all_made H us vs)
 unfolding are_asked is_asked all_made
 asked-made P H [] vs h = tt
 asked-made P H (u ∷ us) [] h = tt
@@ -223,46 +211,3 @@ asked-made P H (u ∷ us) (v ∷ vs) h = both_of (used_made H u v) _ (one_made u
     one_made null v h = fits-made P H (cls object) v h
     one_made (ini t) v h = fits-made P H t v h
     one_made (uninit k) v h = tt
-
--- ---- the run of an accepted bundle
-module _ (s : List ℕ) (v : verdict_of s ≡ pass) (P : Program) (e : read_shaped s ≡ program P) (i j : ℕ) (h : T (is_entry P i j)) (args : List ℕ)
-    (n : length args ≡ length (method P (first_class + i) j).params) (cells : List ℕ) (K : Machine) (r : Reached P (started P cells i j args) K) where
-  abbrev link : Link P
-  link = linking (accepted s v P e).before.read
-
-  abbrev passed : Accepts P
-  passed = passing (accepted s v P e)
-
-  abbrev results : List Desc
-  results = (method P (first_class + i) j).results
-
-  reached : Inv P results K
-  reached = reached_inv link passed results (start_ok link passed i j (entry P i j h) args cells n) r
-
-  -- the next step is not stuck
-  pub never_stuck : step P K ≡ stopped stuck → ⊥
-  never_stuck = good-stuck link passed results (step_ok link passed results reached)
-
-  -- control never leaves the code
-  pub control_stays : offset_of K < length (code_of (code_at P K))
-  control_stays = order_code link passed results reached
-
-  -- no operand is above max_stack
-  pub none_above_max_stack : length (operands_of K) ≤ (body (code_at P K)).max_stack
-  none_above_max_stack = order_room link passed results reached
-
-  -- no operand is of the wrong kind
-  pub none_of_wrong_kind : T (are_asked P (heap_of K) (takes P (code_at P K) (instruction P (code_at P K) (offset_of K))) (operands_of K))
-  none_of_wrong_kind = order_asked link passed results reached
-
-  -- no object is read, written, called, passed on or returned before a built-in class's constructor has run on it
-  pub none_unready : T (all_made (heap_of K) (takes P (code_at P K) (instruction P (code_at P K) (offset_of K))) (operands_of K))
-  none_unready = asked-made P (heap_of K) (takes P (code_at P K) (instruction P (code_at P K) (offset_of K))) (operands_of K) none_of_wrong_kind
-
-  -- arraylength too takes null or a ready object
-  pub array_of_arraylength : instruction P (code_at P K) (offset_of K) ≡ arraylength → T (are_asked P (heap_of K) (object_ty ∷ []) (operands_of K))
-  array_of_arraylength = order_array link passed results reached
-
-  -- no operand is missing
-  pub none_missing : length (takes P (code_at P K) (instruction P (code_at P K) (offset_of K))) ≤ length (operands_of K)
-  none_missing = asked-length P (heap_of K) (takes P (code_at P K) (instruction P (code_at P K) (offset_of K))) (operands_of K) none_of_wrong_kind

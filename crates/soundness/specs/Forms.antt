@@ -6,10 +6,9 @@ use mathlib.Core.List.{List, [], ◌∷◌, append-nil}
 use Rattle.std.proofs.Common.{arith, leb→le}
 use Rattle.std.proofs.Math.Dec.{T}
 use Rattle.kit.specs.Claims.{AllT}
-use Rattle.reader.specs.BuiltIns.{object, arithmetic, class_cast}
-use Rattle.classfiles.specs.Descriptors.{Ref, cls, Desc, dref}
+use Rattle.classfiles.specs.Descriptors.{Ref, Desc}
 use Rattle.reader.specs.Program.{Program}
-use Rattle.rules.specs.Instruction.{Instr, Op, Division, Test, nop, aconstnull, pop, dup, dupx1, swap, ineg, iconst, iload, aload, istore, astore, goto, iinc, ibin, idiv, ifint, ificmp, ifacmp, ifnull, checkcast, instanceof, targets}
+use Rattle.rules.specs.Instruction.{Instr, Op, Test, nop, aconstnull, pop, dup, dupx1, swap, ineg, iconst, iload, aload, istore, astore, goto, iinc, ibin, ifint, ificmp, ifacmp, ifnull, instanceof, targets}
 use Rattle.rules.specs.Types.{Ty, top, int, null, ini, uninit, object_ty, is_int, is_reference}
 use Rattle.rules.specs.States.{top_of, operand}
 use Rattle.rules.specs.Rule.{rule}
@@ -21,10 +20,9 @@ use Rattle.plain.specs.Step.{execute, object_desc}
 use Rattle.facts.specs.Base.{AllT-left}
 use Rattle.facts.specs.Classes.{Link}
 use Rattle.soundness.specs.Pairs.{All2, acons, all2_set, all2_put, all2_at}
-use Rattle.soundness.specs.Typing.{ready, vtop, vint, vnull, vnulc, vini, vraw, to_vt, from_vt, Peeled, peeled, peel, Popped, pnil, pcons, popped}
-use Rattle.soundness.specs.Blocks.{passes}
-use Rattle.soundness.specs.Inv.{typed, Good, only_ok, cond_ok}
-use Rattle.soundness.specs.Steps.{Now, here, meth, deep, R, Sees, rule_at, on, leaping, branch_ok, fault_ok, ready_val}
+use Rattle.soundness.specs.Typing.{ready, vtop, vint, vnull, vnulc, vini, vraw, Peeled, peeled, peel, Popped, pnil, pcons, popped}
+use Rattle.soundness.specs.Inv.{typed, Good, only_ok}
+use Rattle.soundness.specs.Steps.{Now, here, R, Sees, rule_at, on, leaping, branch_ok, ready_val}
 
 -- a local whose type passes a test that top fails is there
 pub within : (test : Ty → Bool) → (T (test top) → ⊥) → (l : List Ty) (j : ℕ) → T (test (get_or l j top)) → j < length l
@@ -108,11 +106,6 @@ module _ {P : Program} (L : Link P) {E : List Desc} (n : Now P E) where
   unfolding execute rule
   ibin_ok f a (pcons vint (pcons vint (pnil ts))) = on L n a tt (typed n.flag n.me n.locals (acons vint ts))
 
-  pub idiv_ok : (f : Division) {vs : List Val} → Sees n (idiv f) → Popped (R n) vs (int ∷ int ∷ []) (drop 2 n.s) → Holds (idiv f) vs
-  unfolding execute rule
-  idiv_ok f a (pcons (vint {a = b}) (pcons vint (pnil ts))) =
-      cond_ok (eqb b 0) (λ _. fault_ok L n arithmetic (omega arith) (omega arith) a n.locals) (λ _. on L n a tt (typed n.flag n.me n.locals (acons vint ts)))
-
   -- ---- locals
   pub iload_ok : (j : ℕ) {vs : List Val} → Sees n (iload j) → All2 (R n) vs n.s → Holds (iload j) vs
   unfolding execute rule
@@ -181,12 +174,6 @@ module _ {P : Program} (L : Link P) {E : List Desc} (n : Now P E) where
       (branch_ok L n t (beq b (eqb (to_cell v) (to_cell w))) a tt (target t refl a) (typed n.flag n.me n.locals ts)))
 
   -- ---- tests of a type
-  pub checkcast_ok : (u : Ref) {vs : List Val} → Sees n (checkcast u) → Popped (R n) vs (object_ty ∷ []) (drop 1 n.s) → Holds (checkcast u) vs
-  unfolding execute rule
-  checkcast_ok u a (pcons {v = v} x (pnil ts)) =
-      only_ok (value_fits P n.H object_desc v) (ready_val L n x) (cond_ok (value_fits P n.H (dref u) v)
-      (λ b. on L n a tt (typed n.flag n.me n.locals (acons (to_vt (meth n) (deep n) n.σ (passes n.heap (from_vt (dref (cls object)) x) (dref u) b)) ts)))
-      (λ b. fault_ok L n class_cast (omega arith) (omega arith) a n.locals))
 
   pub instanceof_ok : (u : Ref) {vs : List Val} → Sees n (instanceof u) → Popped (R n) vs (object_ty ∷ []) (drop 1 n.s) → Holds (instanceof u) vs
   unfolding execute rule

@@ -8,19 +8,18 @@ use Rattle.std.proofs.Common.{arith}
 use Rattle.std.proofs.Math.ListN.{length}
 use Rattle.std.proofs.Math.Dec.{T, eqb→eq, le→leb}
 use Rattle.kit.specs.Claims.{AllT}
-use Rattle.reader.specs.BuiltIns.{throwable}
 use Rattle.classfiles.specs.Descriptors.{Ref, cls, Desc}
 use Rattle.classfiles.specs.Members.{Handler}
 use Rattle.reader.specs.Program.{Program, Method, method, below}
 use Rattle.rules.specs.Opcodes.{body, code_of, size_at}
 use Rattle.rules.specs.Lines.{Line}
 use Rattle.rules.specs.Shape.{catch_class}
-use Rattle.rules.specs.Types.{Key, at, self, Ty, ini, ref_fits}
+use Rattle.rules.specs.Types.{Key, self, Ty, ini, ref_fits}
 use Rattle.rules.specs.States.{State, state, stack, slots_fit, state_fits}
 use Rattle.rules.specs.Frames.{Frame}
 use Rattle.rules.specs.Walk.{frame_at, into_frame, covers, handler_claims, handlers_claims, walk, walk_claims}
 use Rattle.plain.specs.Heap.{Heap, Val, ref}
-use Rattle.plain.specs.Machine.{Call, call, Machine, machine, End, heap_full, depth_full, Result, next, ended, stopped, only, catcher, Landing, nowhere, landing, landing_at, land, landed}
+use Rattle.plain.specs.Machine.{Call, call, Machine, machine, End, heap_full, depth_full, Result, next, ended, stopped, only, catcher, Landing, nowhere, landing, landing_at, land}
 use Rattle.facts.specs.Base.{first_of, second_of, guarded, AllT-left, AllT-right, same_truth}
 use Rattle.facts.specs.Classes.{Link}
 use Rattle.soundness.specs.Pairs.{All2, anil, acons, all2_map, all2_length}
@@ -207,12 +206,3 @@ module _ {P : Program} {E : List Desc} {Ψ : HTys} (c : ℕ) where
   unfolding land
   lands cnil = lost
   lands (ccons {c = k} {m} {vs = vs} fs w g cs) = landing_ok k m vs fs g w.catch cs (lands cs)
-
-  -- the object is there, or is made
-  pub landed_ok : T (below P c throwable) → (obtain : (ℕ → Heap → Result) → Result)
-      → ((k : ℕ → Heap → Result) → ((Ψ' : HTys) (H' : Heap) (a : ℕ) → HOK P Ψ' H' → ((d : ℕ) → Keeps d Ψ Ψ') → Ψ' a ≡ some (hty (cls c) ready) → Good P E (k (suc a) H')) → Good P E (obtain k))
-      → {l : Landing} → Lands P Ψ E c l → Good P E (landed P c obtain l)
-  unfolding landed
-  landed_ok b obtain f lost = f _ (λ Ψ' H' a hk kp p. ends b)
-  landed_ok b obtain f (held {k} {m} {ks = ks} fs r g t cs) =
-      only_ok (leb 1 (body (method P k m)).max_stack) r (f _ (λ Ψ' H' a hk kp p. goes (inv Ψ' fs hk g (t Ψ' kp a p) (calls_keep cs (kp (length ks))))))

@@ -10,10 +10,8 @@ pub mod Inv
 pub mod Steps
 pub mod Forms
 pub mod Objects
-pub mod Returns
 pub mod Calls
 pub mod Constructors
-pub mod Exec
 pub mod Theorem
 pub mod Runs
 pub mod Consequences

@@ -1,36 +1,32 @@
 -- A machine at an instruction whose claims hold: how the parts that steps are made of keep the invariant.
-use Rattle.std.specs.Prelude.{ℕ, suc, ◌+◌, ◌<◌, ◌≤◌, Bool, cond, eqb, leb, ltb}
+use Rattle.std.specs.Prelude.{ℕ, suc, ◌+◌, Bool, cond, eqb, leb}
 use Rattle.std.proofs.Math.Path.{◌≡◌, refl}
-use Rattle.std.proofs.Common.{sym, ap, ◌∙◌, arith, ltb→lt}
+use Rattle.std.proofs.Common.{arith}
 use Rattle.std.proofs.Math.Bool.{true, false}
-use Rattle.std.specs.Bool.{beq}
 use mathlib.Core.List.{List, [], ◌∷◌, ◌++◌, reverse_aux}
 use Rattle.std.proofs.Math.Option.{none, some}
 use Rattle.std.proofs.Math.ListN.{length}
-use Rattle.std.proofs.Math.Dec.{T, eqb_refl}
+use Rattle.std.proofs.Math.Dec.{T}
 use Rattle.kit.specs.Claims.{AllT}
-use Rattle.reader.specs.BuiltIns.{throwable, first_class, object, null_pointer, array_index}
+use Rattle.reader.specs.BuiltIns.{object}
 use Rattle.classfiles.specs.Descriptors.{Ref, cls, arr, Desc, dint, dref, dimensions}
-use Rattle.reader.specs.Program.{Program, Method, method, below}
+use Rattle.reader.specs.Program.{Program, Method, method}
 use Rattle.rules.specs.Instruction.{Instr, falls}
 use Rattle.rules.specs.Opcodes.{body, code_of, size_at}
 use Rattle.rules.specs.Lines.{Line}
-use Rattle.rules.specs.Types.{Key, self, Ty, top, int, null, ini, uninit, is_array, int_array, object_array, is_dint, tys_of, ref_fits, desc_fits, fits}
+use Rattle.rules.specs.Types.{Key, Ty, top, int, null, ini, uninit, is_array, int_array, object_array, is_dint, tys_of, ref_fits, desc_fits, fits}
 use Rattle.rules.specs.States.{State, state}
 use Rattle.rules.specs.Frames.{Frame}
 use Rattle.rules.specs.Rule.{Rule, rule}
 use Rattle.rules.specs.Walk.{frame_at, into_frame, walk, onward}
-use Rattle.plain.specs.Heap.{Heap, Val, ref, ref_of, base_of, type_at, ready_at, element_at, allocate, has_room, next_ref, value_fits}
-use Rattle.plain.specs.Heap.{size_at as count_at}
-use Rattle.plain.specs.Machine.{Call, Result, Here, pop_arguments, go_on, with_room, create, throw, fault, receiver, with_element}
-use Rattle.plain.specs.Step.{element}
+use Rattle.plain.specs.Heap.{Heap, Val, ref_of, base_of, allocate, has_room, next_ref, value_fits}
+use Rattle.plain.specs.Machine.{Call, Result, Here, pop_arguments, go_on, with_room, create}
 use Rattle.facts.specs.Classes.{Link, ref_trans}
 use Rattle.soundness.specs.Pairs.{All2, acons, all2_map}
-use Rattle.soundness.specs.Cells.{class_again}
-use Rattle.soundness.specs.Typing.{Own, ready, is_ready, hty, HTys, upd, upd_same, VD, vdnul, vdref, VT, vnull, vnulc, vini, Keeps, keeps_self, keeps_more, from_vt, keep_vt, Popped, pcons}
-use Rattle.soundness.specs.Blocks.{SizeOk, Block, HOK, vacant, grown, fits_ok}
+use Rattle.soundness.specs.Typing.{Own, is_ready, hty, HTys, upd, VD, vdnul, vdref, VT, Keeps, keeps_self, from_vt, keep_vt, Popped, pcons}
+use Rattle.soundness.specs.Blocks.{SizeOk, HOK, vacant, grown, fits_ok}
 use Rattle.soundness.specs.Walk.{Seen}
-use Rattle.soundness.specs.Inv.{Checked, FlagOK, Me, Slots, Top, Catches, Calls, inv, Good, goes, full, only_ok, cond_ok, keep_flag, calls_keep, arrive, alight, catches, landing_ok, lands, landed_ok}
+use Rattle.soundness.specs.Inv.{Checked, FlagOK, Me, Slots, Top, Catches, Calls, inv, Good, goes, full, only_ok, keep_flag, calls_keep, arrive, alight, catches}
 
 -- the running call at an instruction, but for its operands
 pub record Now (P : Program) (E : List Desc) : Type 0 where
@@ -138,68 +134,16 @@ module _ {P : Program} (L : Link P) {E : List Desc} (n : Now P E) where
   pub kept_catches : {i : Instr} {Ψ' : HTys} → Sees n i → All2 (R n) n.ls (rule_at n i).caught → Keeps (suc (deep n)) n.Ψ Ψ' → Catches P Ψ' (deep n) (meth n) n.fs n.o n.q n.ls
   kept_catches a x k = catches L n.checked n.o n.g (keep_flag k n.flag) n.me (all2_map (λ v t z. keep_vt k z) x) a.catch
 
-  pub throw_ok : {i : Instr} (a c : ℕ) → Sees n i → All2 (R n) n.ls (rule_at n i).caught → n.Ψ a ≡ some (hty (cls c) ready) → T (below P c throwable) → Good P E (throw P (here n) (suc a) c)
-  unfolding throw
-  throw_ok a c e x p b =
-      landed_ok {Ψ = n.Ψ} c b (λ k. k (suc a) n.H) (λ k f. f n.Ψ n.H a n.heap (λ d. keeps_self d n.Ψ) p)
-      (landing_ok c n.c n.m [] n.fs n.checked (λ Ψ' k. kept_catches e x k) n.calls (lands c n.calls))
-
-  pub fault_ok : {i : Instr} (c : ℕ) → throwable ≤ c → c < first_class → Sees n i → All2 (R n) n.ls (rule_at n i).caught → Good P E (fault P (here n) c)
-  unfolding fault
-  fault_ok c b l e x =
-      landed_ok {Ψ = n.Ψ} c (L.thrown c b l) (create n.H (cls c) 0 1)
-      (λ k f. create_ok (cls c) 0 1 ready refl (class_again c) (sym (ap length (L.plain c l))) k
-      (λ hk. f (upd n.Ψ n.H.used (hty (cls c) ready)) (allocate n.H (cls c) 0 1) n.H.used hk (λ d. keeps_more d n.Ψ n.H.used (hty (cls c) ready) free) (upd_same n.Ψ n.H.used (hty (cls c) ready))))
-      (landing_ok c n.c n.m [] n.fs n.checked (λ Ψ' k. kept_catches e x k) n.calls (lands c n.calls))
-
   -- ---- objects
   pub ready_val : {v : Val} → R n v (ini (cls object)) → T (value_fits P n.H (dref (cls object)) v)
   ready_val x = fits_ok n.heap (from_vt (dref (cls object)) x)
 
-  pub receiver_ok : {i : Instr} (u : Ref) {v : Val} → Sees n i → All2 (R n) n.ls (rule_at n i).caught → R n v (ini u) → (k : ℕ → Result)
-      → ((a : ℕ) (e : Ref) → n.Ψ a ≡ some (hty e ready) → T (ref_fits P e u) → Block P n.Ψ n.H a e ready → Good P E (k a)) → Good P E (receiver P (here n) u v k)
-  unfolding receiver
-  receiver_ok u e x vnulc k f = fault_ok null_pointer (omega arith) (omega arith) e x
-  receiver_ok u e x (vini {a} t p s) k f =
-      let b : Block P n.Ψ n.H a t ready = n.heap.found a t ready p in
-      only_ok (ready_at n.H a) (rw b.ready tt) (only_ok (value_fits P n.H (dref u) (ref (suc a))) (fits_ok n.heap (vdref {a = a} t p s)) (f a t p s b))
-
-  -- an array: of which type, and where
-  pub array_ok : {i : Instr} (t : Ty) {v : Val} → Sees n i → All2 (R n) n.ls (rule_at n i).caught → T (is_array t) → R n v t → (k : ℕ → Desc → Result)
-      → ((a : ℕ) (D D' : Desc) → t ≡ ini (arr D) → n.Ψ a ≡ some (hty (arr D') ready) → T (desc_fits P D' D) → Block P n.Ψ n.H a (arr D') ready → Good P E (k a D'))
-      → Good P E (receiver P (here n) (cls object) v λ a. with_element (type_at n.H a) λ d. k a d)
-  unfolding ref_fits receiver
-  array_ok top e x y v k f = absurd y
-  array_ok int e x y v k f = absurd y
-  array_ok null e x y vnull k f = fault_ok null_pointer (omega arith) (omega arith) e x
-  array_ok (ini (cls b)) e x y v k f = absurd y
-  array_ok (ini (arr D)) e x y vnulc k f = fault_ok null_pointer (omega arith) (omega arith) e x
-  array_ok (ini (arr D)) e x y (vini (cls b) p s) k f = absurd s
-  array_ok (ini (arr D)) e x y (vini {a} (arr D') p s) k f =
-      let b : Block P n.Ψ n.H a (arr D') ready = n.heap.found a (arr D') ready p in
-      only_ok (ready_at n.H a) (rw b.ready tt) (only_ok (value_fits P n.H (dref (cls object)) (ref (suc a))) (fits_ok n.heap (vdref {a = a} (arr D') p (eqb_refl 0)))
-      (rw b.type (f a D D' refl p s b)))
-  array_ok (uninit j) e x y v k f = absurd y
-
-  -- the element at an index of an array of ints or of references
-  same_kind : (D' D : Desc) → T (desc_fits P D' D) → is_dint D' ≡ is_dint D
+  pub same_kind : (D' D : Desc) → T (desc_fits P D' D) → is_dint D' ≡ is_dint D
   unfolding desc_fits
   same_kind dint dint h = refl
   same_kind dint (dref t) h = absurd h
   same_kind (dref u) dint h = absurd h
   same_kind (dref u) (dref t) h = refl
-
-  pub element_ok : {i : Instr} (ints : Bool) (j : ℕ) (t : Ty) {v : Val} → Sees n i → All2 (R n) n.ls (rule_at n i).caught → T (is_array t) → ((D : Desc) → t ≡ ini (arr D) → is_dint D ≡ ints) → R n v t → (k : Desc → ℕ → Result)
-      → ((a : ℕ) (D D' : Desc) → t ≡ ini (arr D) → n.Ψ a ≡ some (hty (arr D') ready) → T (desc_fits P D' D) → is_dint D' ≡ ints → j < count_at n.H a → Block P n.Ψ n.H a (arr D') ready → Good P E (k D' (element_at a j)))
-      → Good P E (element P (here n) ints v j k)
-  unfolding element
-  element_ok ints j t e x y z v k f = array_ok t e x y v _ (λ a D D' q p s b.
-      let kind : is_dint D' ≡ ints = same_kind D' D s ∙ z D q in
-      only_ok (beq ints (is_dint D')) (rw kind (beq_refl ints)) (cond_ok (ltb j (count_at n.H a)) (λ l. f a D D' q p s kind (ltb→lt j (count_at n.H a) l) b) (λ l. fault_ok array_index (omega arith) (omega arith) e x)))
-    where
-      beq_refl : (b : Bool) → T (beq b b)
-      beq_refl true = tt
-      beq_refl false = tt
 
   pub int-array : (t : Ty) → T (fits P t int_array) → T (is_array t) × ((D : Desc) → t ≡ ini (arr D) → is_dint D ≡ true)
   unfolding fits ref_fits desc_fits

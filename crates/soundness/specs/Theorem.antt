@@ -1,4 +1,4 @@
--- Demand 3: what is accepted never gets stuck, from the bytes.
+-- What is accepted has passed, and its runs start in good order.
 use Rattle.std.specs.Prelude.{ℕ, zero, suc, ◌+◌, ◌-◌, ◌<◌, ◌≤◌, ◌≡◌, refl, true, false, List, [], ◌∷◌, map, length, T, ltb}
 use Rattle.std.proofs.Math.Option.{none}
 use Rattle.std.proofs.Common.{arith, ltb→lt, eq-eqb}
@@ -18,27 +18,13 @@ use Rattle.facts.specs.Parsing.{results_few}
 use Rattle.facts.specs.Classes.{Link}
 use Rattle.facts.specs.Linking.{linking}
 use Rattle.soundness.specs.Pairs.{All2, anil, acons}
-use Rattle.soundness.specs.Demand3.{EndOk, Sound}
-use Rattle.soundness.specs.Accepted.{Accepted, Judged, accepted}
+use Rattle.soundness.specs.Demand3.{EndOk}
+use Rattle.soundness.specs.Accepted.{Accepted, Judged}
 use Rattle.soundness.specs.Tables.{table_ok}
 use Rattle.soundness.specs.Typing.{HTys, VD, vdint}
 use Rattle.soundness.specs.Blocks.{nothing_ok}
-use Rattle.soundness.specs.Inv.{Checked, dnone, fclr, nobody, cnil, Inv, inv, Good, goes, ends, full, deep}
+use Rattle.soundness.specs.Inv.{Checked, dnone, fclr, nobody, cnil, Inv, inv}
 use Rattle.soundness.specs.Calls.{Accepts, args_typed, entering}
-use Rattle.soundness.specs.Exec.{step_ok}
-
--- ---- a run of any length
-turn_ok : {P : Program} {E : List Desc} {r : Result} → Good P E r → (n : ℕ) (H : Heap) (k : Machine → Ran) → ((K : Machine) → Inv P E K → EndOk P E (k K).heap (k K).end) → EndOk P E (turn r n H k).heap (turn r n H k).end
-unfolding turn
-turn_ok (goes {K} i) n H k f = f K i
-turn_ok (ends e) n H k f = e
-turn_ok full n H k f = tt
-turn_ok deep n H k f = tt
-
-pub run_ok : {P : Program} (L : Link P) → Accepts P → (E : List Desc) (left n : ℕ) (K : Machine) → Inv P E K → EndOk P E (run P left n K).heap (run P left n K).end
-unfolding run
-run_ok L acc E zero n K i = tt
-run_ok L acc E (suc left) n K i = turn_ok (step_ok L acc E i) n (heap_of K) _ (λ K' i'. run_ok L acc E left (suc n) K' i')
 
 -- ---- what is accepted has passed
 pub passing : {s : List ℕ} {P : Program} → Accepted s P → Accepts P
@@ -89,21 +75,11 @@ start_ok {P} L acc i j e args cells n =
     plain : is_constructor (method P (first_class + i) j) ≡ false
     plain = T_false (is_constructor (method P (first_class + i) j)) (λ t. let z : (method P (first_class + i) j).static ≡ false = L.bound (first_class + i) j t in let y = e.static in let w : ◌≡◌ {A = ℕ} 0 1 = cc in omega arith)
 
--- ---- the theorem
-answer : (s : List ℕ) (P : Program) → read_shaped s ≡ program P → (i j : ℕ) → T (is_entry P i j) → (args : List ℕ) → length args ≡ length (method P (first_class + i) j).params → (cells : List ℕ) (budget : ℕ)
+-- ---- what a run answers
+pub answer : (s : List ℕ) (P : Program) → read_shaped s ≡ program P → (i j : ℕ) → T (is_entry P i j) → (args : List ℕ) → length args ≡ length (method P (first_class + i) j).params → (cells : List ℕ) (budget : ℕ)
     → answer_of s cells i j args budget ≡ ending (run P budget 0 (started P cells i j args))
 unfolding answer_of answered entered
 answer s P e i j h args n cells budget = rw (e, T_true (is_entry P i j) h, eq-eqb (length args) (length (method P (first_class + i) j).params) n) refl
-
-pub sound : Sound
-sound s v P e i j h args n cells budget =
-    let a : Accepted s P = accepted s v P e in
-    let L : Link P = linking a.before.read in
-    let acc : Accepts P = passing a in (
-      run P budget 0 (started P cells i j args),
-      answer s P e i j h args n cells budget,
-      run_ok L acc (method P (first_class + i) j).results budget 0 (started P cells i j args) (start_ok L acc i j (entry P i j h) args cells n),
-    )
 
 -- the numbers 1 to 5, never 6
 pub ends_well : (P : Program) (ds : List Desc) (H : Heap) (e : End) → EndOk P ds H e → end_number e ≤ 5

@@ -1,3 +1,3 @@
-// Soundness: theorems alone, in specs/.
+// Soundness: theorems alone, in specs/ and proofs/.
 
 #![tactic(auto)]

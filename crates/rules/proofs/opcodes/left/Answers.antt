@@ -1,4 +1,5 @@
-use Rattle.rules.specs.OpcodeTable.{table, rule, no_byte}
+use Rattle.rules.proofs.OpcodeTable.{rule}
+use Rattle.rules.specs.OpcodeTable.{table, no_byte}
 use borrow.Author.Rules.{rules}
 use Rattle.rules.proofs.opcodes.left.Goals as goal
 

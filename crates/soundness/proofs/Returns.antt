@@ -9,8 +9,7 @@ use Rattle.std.proofs.Math.Dec.{T}
 use Rattle.classfiles.specs.Descriptors.{Ref, Desc, dint, dref}
 use Rattle.reader.specs.Program.{Program}
 use Rattle.rules.specs.Instruction.{Instr, ireturn, areturn, return}
-use Rattle.rules.specs.Resolve.{found}
-use Rattle.rules.specs.Types.{at, Ty, int, tys_of}
+use Rattle.rules.specs.Types.{Ty, int, tys_of}
 use Rattle.rules.specs.Rule.{rule, returns_int, returns_ref, returns_void, returned}
 use Rattle.plain.specs.Heap.{Heap, Val, value_fits}
 use Rattle.plain.specs.Machine.{Call, only, give_back}

@@ -23,11 +23,14 @@ use Rattle.soundness.specs.Typing.{vint, fit, Peeled, peeled}
 use Rattle.soundness.specs.Walk.{Here as At}
 use Rattle.soundness.specs.Inv.{Slots, typed, Inv, inv, Good}
 use Rattle.soundness.specs.Steps.{Now, here, meth, R, Sees}
-use Rattle.soundness.specs.Forms.{one, two, pops, nop_ok, aconstnull_ok, iconst_ok, pop_ok, dup_ok, dupx1_ok, swap_ok, ineg_ok, ibin_ok, idiv_ok, iload_ok, iinc_ok, aload_ok, istore_ok, astore_ok, goto_ok, ifint_ok, ificmp_ok, ifnull_ok, ifacmp_ok, checkcast_ok, instanceof_ok}
-use Rattle.soundness.specs.Objects.{getfield_ok, putfield_ok, arraylength_ok, iaload_ok, iastore_ok, aaload_ok, aastore_ok, newarray_ok, new_ok, athrow_ok}
-use Rattle.soundness.specs.Returns.{ireturn_ok, areturn_ok, return_ok}
-use Rattle.soundness.specs.Calls.{Accepts, invokestatic_ok, invokevirtual_ok}
+use Rattle.soundness.specs.Forms.{one, two, pops, nop_ok, aconstnull_ok, iconst_ok, pop_ok, dup_ok, dupx1_ok, swap_ok, ineg_ok, ibin_ok, iload_ok, iinc_ok, aload_ok, istore_ok, astore_ok, goto_ok, ifint_ok, ificmp_ok, ifnull_ok, ifacmp_ok, instanceof_ok}
+use Rattle.soundness.specs.Objects.{new_ok}
+use Rattle.soundness.specs.Calls.{Accepts, invokestatic_ok}
 use Rattle.soundness.specs.Constructors.{invokespecial_ok}
+use Rattle.soundness.proofs.Forms.{idiv_ok, checkcast_ok}
+use Rattle.soundness.proofs.Objects.{getfield_ok, putfield_ok, arraylength_ok, iaload_ok, iastore_ok, aaload_ok, aastore_ok, newarray_ok, athrow_ok}
+use Rattle.soundness.proofs.Returns.{ireturn_ok, areturn_ok, return_ok}
+use Rattle.soundness.proofs.Calls.{invokevirtual_ok}
 
 one_of_two : (k : ℕ) → T (leb 2 k) → T (leb 1 k)
 one_of_two k h = let i = leb→le 2 k h in le→leb 1 k (omega arith)

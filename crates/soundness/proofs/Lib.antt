@@ -1,0 +1,10 @@
+pub mod Inv
+pub mod Steps
+pub mod Forms
+pub mod Objects
+pub mod Returns
+pub mod Calls
+pub mod Exec
+pub mod Theorem
+pub mod Runs
+pub mod Consequences
