@@ -8,7 +8,7 @@ use mathlib.Core.List.{List, [], ◌∷◌}
 use Rattle.std.proofs.Math.ListN.{length}
 use Rattle.std.proofs.Math.Dec.{T, eqb, eqb→eq}
 use Rattle.classfiles.specs.Limits.{max_bundle, max_classes, max_parameters}
-use Rattle.texts.specs.Reading.{Res, ok, bad, and_then, pre, many}
+use Rattle.texts.specs.Reading.{Res, ok, bad, and_then, pre}
 use Rattle.texts.specs.Names.{Text, is_init, method_name}
 use Rattle.classfiles.specs.Descriptors.{MethodType, method_type_at}
 use Rattle.classfiles.specs.Pool.{Constant, text, utf8_index_at}

@@ -23,7 +23,7 @@ use Rattle.facts.specs.Base.{AllT-left, AllT-right, second_of, right_of}
 use Rattle.facts.specs.Parsing.{Each, each_at, results-length}
 use Rattle.facts.specs.Files.{Read, File, bundle_read}
 use Rattle.facts.specs.Shown.{Linked, WasRead}
-use Rattle.facts.specs.Classes.{Link, parent, up_refl}
+use Rattle.facts.specs.Classes.{Link, up_refl}
 
 abbrev no_file : ClassFile
 no_file = record { start = 0; pool = []; name = []; super = zero'; fields = []; methods = [] }

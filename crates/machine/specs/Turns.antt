@@ -17,7 +17,6 @@ use Rattle.shaping.specs.Located.{Located}
 use Rattle.shaping.specs.Phases.{program_now}
 use Rattle.plain.specs.Heap.{heap}
 use Rattle.plain.specs.Machine.{Machine, End, returned, uncaught, heap_full, depth_full, stuck, Result, next, ended, stopped}
-use Rattle.plain.specs.Step.{step}
 use Rattle.plain.specs.Run.{Ran, turn, run, end_number, end_value}
 use Rattle.plain.specs.Windows.{end_of}
 use Rattle.plain.specs.declared.frames.Frame.{Frame}

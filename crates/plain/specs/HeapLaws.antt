@@ -6,9 +6,7 @@ use Rattle.std.proofs.lemmas.List.{length-replicate, take-append-le}
 use Rattle.std.proofs.lemmas.List.Edits.{sets-eq}
 use Rattle.kit.specs.Lists.{set_append_right, fill_step}
 use Rattle.classfiles.specs.Descriptors.{cls, dint, dref, dimensions, depth_of}
-use Rattle.rules.specs.TypeWords as types
-use Rattle.rules.specs.InstructionWords as words
-use Rattle.plain.specs.Heap.{heap, cell, int_base, desc_of, ref_of, base_of, element_base, type_at, store, mark_ready, allocate, has_room}
+use Rattle.plain.specs.Heap.{heap, int_base, desc_of, ref_of, base_of, element_base, type_at, store, mark_ready, allocate, has_room}
 
 -- n cells from a on made zero
 unfoldable pub cleared : List ℕ → ℕ → ℕ → List ℕ

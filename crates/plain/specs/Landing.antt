@@ -1,7 +1,6 @@
 -- Where a thrown object lands, call by call, by what the code finds in each one's table. Assumes nothing.
 use Rattle.std.specs.Prelude.{◌≡◌, ℕ, suc, Bool, true, false, cond, List, [], ◌∷◌}
 use Rattle.std.proofs.Math.Path.{refl}
-use Rattle.std.proofs.Common.{◌∙◌}
 use Rattle.std.proofs.Math.Option.{none, some}
 use Rattle.reader.specs.Program.{Program, method}
 use Rattle.rules.specs.Opcodes.{body}

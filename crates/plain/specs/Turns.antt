@@ -1,5 +1,5 @@
 -- Steps by their tests: what the code's answers come to in every context that stands where the code does. Assumes nothing.
-use Rattle.std.specs.Prelude.{◌≡◌, ℕ, zero, suc, ◌+◌, ◌-◌, ◌<◌, ◌≤◌, Bool, true, false, not, List, [], ◌∷◌, length, set, ◌==◌, ◌≢◌, refl}
+use Rattle.std.specs.Prelude.{◌≡◌, ℕ, suc, ◌+◌, ◌-◌, ◌<◌, ◌≤◌, Bool, true, false, not, List, ◌∷◌, length, set, ◌==◌, ◌≢◌, refl}
 use Rattle.std.proofs.Common.{sym, ap, ◌∙◌, length-set}
 use Rattle.std.proofs.Math.Nat.{zero-add}
 use native.Mathlib.Omega.{arith}

@@ -12,7 +12,7 @@ use Rattle.rules.specs.TypeWords.{nest}
 use Rattle.rules.specs.TypeWords as types
 use Rattle.rules.specs.InstructionWords as words
 use Rattle.rules.specs.Ancestry.{lineage, Parents, fits-lineage}
-use Rattle.plain.specs.Heap.{heap, ref, cell, int_base, desc_of, ref_of, type_at, refers_to, Heap, Val, empty, num, value_fits, is_num, is_ref, to_cell, from_cell}
+use Rattle.plain.specs.Heap.{heap, ref, int_base, desc_of, ref_of, type_at, refers_to, Heap, Val, empty, num, value_fits, is_num, is_ref, to_cell, from_cell}
 use Rattle.rules.specs.TypeWords as types
 use Rattle.rules.specs.InstructionWords as words
 use Rattle.kit.specs.Bools.{not_so}

@@ -10,7 +10,7 @@ use borrow.Author.Tests.{eq-eqb, ne_eqb, eqb-true, eqb-false}
 use Rattle.classfiles.specs.Descriptors.{Ref, cls, arr, Desc, dint, dref}
 use Rattle.reader.specs.TypeCodes as code
 use Rattle.reader.specs.TypeCodes.{nested, ref_in, ref_of as ref_by, desc_of as code_desc}
-use Rattle.rules.specs.Types.{Ty, int, ini, ty_of}
+use Rattle.rules.specs.Types.{int, ini, ty_of}
 use Rattle.rules.specs.TypeWords.{int_base, base_of, nest, type_of}
 use Rattle.rules.specs.TypeCodes.{code_base, code_ref}
 use Rattle.rules.specs.InstructionWords.{ref_of, desc_of, element_of}

@@ -1,6 +1,6 @@
 -- Laws of decoding: opcodes that are not listed, and the instruction of a method at a site. Assumes nothing.
-use Prim.Native.Nat.{ℕ, zero, suc, ◌+◌, ◌-◌, ◌*◌, ◌/◌, ◌%◌, ◌^◌, ◌<◌, ◌≤◌}
-use Rattle.std.specs.Prelude.{◌≡◌, Bool, cond, ◌&&◌, leb, length, get_or}
+use Prim.Native.Nat.{ℕ, zero, suc, ◌+◌, ◌-◌, ◌*◌, ◌/◌, ◌%◌, ◌<◌, ◌≤◌}
+use Rattle.std.specs.Prelude.{◌≡◌, Bool, cond, ◌&&◌, get_or}
 use Rattle.std.proofs.Math.Path.{refl, sym, ap}
 use Rattle.std.proofs.Common.{subst, ◌∙◌}
 use Rattle.std.proofs.Math.Bool.{true, false}
@@ -10,17 +10,17 @@ use Rattle.std.proofs.Math.Dec.{eqb, ltb}
 use borrow.Author.Tests.{eq-eqb, ne_eqb, eqb-true, eqb-false, lt-ltb, le-ltb}
 use Rattle.kit.specs.Bools.{both_left, both_right, not_so}
 use Rattle.kit.specs.Scan.{first_not, first_before}
-use Rattle.classfiles.specs.Descriptors.{Ref, cls, arr, Desc, dint, dref, dimensions, depth_of}
-use Rattle.reader.specs.Program.{Program, Method, class}
+use Rattle.classfiles.specs.Descriptors.{Ref, cls, Desc, dint, dref, dimensions, depth_of}
+use Rattle.reader.specs.Program.{Program}
 use Rattle.rules.specs.Instruction.{Instr, FieldRef, MethodRef, iconst, new, newarray, invokevirtual, invokespecial, invokestatic, illegal, unresolved}
-use Rattle.rules.specs.Resolve.{Resolved, nothing, number, type, field, method_of, resolve, as_number, as_type, as_field, as_method, new_of, array_of, is_static_call, is_virtual_call, is_init_call}
-use Rattle.rules.specs.Opcodes.{Row, row, rows, row_in, row_of, length_of, within, code_of, instruction}
+use Rattle.rules.specs.Resolve.{Resolved, nothing, number, type, field, method_of, as_number, as_type, as_field, as_method, new_of, array_of, is_static_call, is_virtual_call, is_init_call}
+use Rattle.rules.specs.Opcodes.{Row, row, rows, row_in, row_of, length_of, within}
 use Rattle.rules.specs.TypeWords.{int_base, base_of, nest}
 use Rattle.rules.specs.CodeLaws.{ref-class, ref_array}
 use Rattle.rules.specs.TypeCodes.{code_base, code_ref}
 use Rattle.rules.specs.InstructionWords.{instr_of}
 use Rattle.texts.specs.Reading.{u4_at}
-use Rattle.rules.specs.ResolvedWords.{field_in, method_in, static_bit, init_bit, resolved_as, resolved_of, resolved_in, word_of, Flagged}
+use Rattle.rules.specs.ResolvedWords.{field_in, method_in, resolved_as, resolved_of, resolved_in, word_of, Flagged}
 use Rattle.rules.specs.Decoding.{Refers, CallsBy, made_by, made, DecodedAt}
 use Rattle.rules.specs.declared.instruction.Instr as code
 

@@ -8,7 +8,6 @@ use Rattle.std.proofs.Math.ListN.{drop}
 use Rattle.kit.specs.Claims.{claim, is, verdict, then, one, many}
 use Rattle.reader.specs.Program.{Program}
 use Rattle.rules.specs.Types.{Ty}
-use Rattle.rules.specs.States.{state}
 use Rattle.rules.specs.Walk.{operands_fit}
 use Rattle.rules.specs.TypeWords.{type_of}
 use Rattle.rules.specs.Slots.{stack_at, held, Moved, pushed}

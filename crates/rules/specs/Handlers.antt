@@ -1,16 +1,15 @@
 -- The exception table in the bundle, eight bytes an entry, and what is asked of an instruction under it, as the code follows it. Assumes nothing.
 use Prim.Native.Nat.{ℕ, zero, suc, ◌+◌, ◌-◌, ◌*◌, ◌/◌, ◌%◌, ◌<◌, ◌≤◌}
-use Rattle.std.specs.Prelude.{◌≡◌, Bool, cond, not, eqb, ltb, leb}
+use Rattle.std.specs.Prelude.{◌≡◌, Bool, cond, not, eqb, ltb}
 use Rattle.std.proofs.Math.Path.{refl, sym, ap}
 use Rattle.std.proofs.Common.{◌∙◌, not-suc-le-zero, sub-one}
 use Rattle.std.proofs.Math.Bool.{true, false}
 use mathlib.Core.List.{List, [], ◌∷◌, ◌++◌}
 use Rattle.std.proofs.Math.Option.{Option, none, some}
 use native.Mathlib.Omega.{arith}
-use borrow.Author.Tests.{eq-eqb, ne_eqb, eqb-true, eqb-false, lt-ltb, le-ltb, le-leb, lt-leb}
-use Rattle.kit.specs.Words.{word}
+use borrow.Author.Tests.{eq-eqb, ne_eqb, eqb-true, eqb-false, le-leb, lt-leb}
 use Rattle.kit.specs.Pick.{same}
-use Rattle.kit.specs.Claims.{Claim, claim, Ruling, pass, fail, is, verdict, then, one, nothing, verdict-append, verdict_none, is_zero, is_not, pass_then, fail_then}
+use Rattle.kit.specs.Claims.{Claim, claim, Ruling, is, verdict, then, one, nothing, verdict-append, is_zero, is_not, pass_then, fail_then}
 use Rattle.texts.specs.Reading.{u2_at}
 use Rattle.classfiles.specs.Descriptors.{cls}
 use Rattle.reader.specs.BuiltIns.{throwable, first_class}
@@ -19,12 +18,12 @@ use Rattle.classfiles.specs.Members.{Handler}
 use Rattle.reader.specs.Program.{Program, Method, class}
 use Rattle.rules.specs.Resolve.{Resolved, resolve, caught_class}
 use Rattle.rules.specs.TypeCodes.{code_ref}
-use Rattle.rules.specs.ResolvedWords.{resolved_as, resolved_of, resolved_word, word_of}
+use Rattle.rules.specs.ResolvedWords.{resolved_as, resolved_of, word_of}
 use Rattle.rules.specs.Sites.{Sited}
 use Rattle.rules.specs.declared.site.Site.{Site}
 use Rattle.rules.specs.Shape.{catch_class}
 use Rattle.rules.specs.Types.{Ty, ini}
-use Rattle.rules.specs.States.{State, state, state_fits}
+use Rattle.rules.specs.States.{State, state}
 use Rattle.rules.specs.Frames.{Frame}
 use Rattle.rules.specs.Walk.{frame_at, into_frame, covers, handler_claims, handlers_claims, branch_claims}
 use Rattle.rules.specs.TypeWords.{type_of}

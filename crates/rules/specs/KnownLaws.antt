@@ -1,5 +1,5 @@
 -- Each instruction's rule as the code follows it is the meaning's, where what the code knows is so of the program. Assumes nothing.
-use Rattle.std.specs.Prelude.{ℕ, suc, ◌+◌, ◌-◌, ◌/◌, ◌%◌, ◌<◌, ◌≤◌, ◌≡◌, Bool, true, cond, eqb, leb, length, drop}
+use Rattle.std.specs.Prelude.{ℕ, suc, ◌+◌, ◌-◌, ◌/◌, ◌%◌, ◌<◌, ◌≤◌, ◌≡◌, Bool, true, eqb, leb, length, drop}
 use Rattle.std.proofs.Math.Path.{refl, ap}
 use Rattle.std.proofs.Common.{sym, ◌∙◌, arith, eq-eqb, ne_eqb, length-append}
 use Rattle.std.proofs.Math.Bool.{false}
@@ -13,7 +13,7 @@ use Rattle.rules.specs.Resolve.{found}
 use Rattle.rules.specs.Lines.{new_class_at}
 use Rattle.rules.specs.Types.{Key, at, self, Ty, top, int, null, ini, uninit, tys_of, fits}
 use Rattle.rules.specs.States.{State, state, stack, operand, replace_all}
-use Rattle.rules.specs.Rule.{Rule, rule', rule, key_of, key_ok, init_ok, key_class, initialised, arguments, constructing}
+use Rattle.rules.specs.Rule.{Rule, rule, key_of, key_ok, init_ok, key_class, initialised, arguments, constructing}
 use Rattle.rules.specs.Walk.{operands_fit, operand_claims}
 use Rattle.rules.specs.InstructionWords.{callee_of, call_of, instr_of}
 use Rattle.rules.specs.TypeWords.{type_of}
@@ -21,11 +21,11 @@ use Rattle.rules.specs.TypeLaws.{of_type, at_kind, kinds, type-uninit, type_this
 use Rattle.rules.specs.Ancestry.{lineage, Parents, parented, fits-lineage}
 use Rattle.rules.specs.Slots.{stack_at, locals_at, held, Moved, Outside, dropped, all_swapped, veil}
 use Rattle.rules.specs.SlotLaws.{length-stack, drop-stack, stack_none, cut-held, veil_no, veil_yes}
-use Rattle.rules.specs.Forms.{asked, turned, Kept, plain_takes, plain_gives, branch_takes, form_rule, form_claims, plain-rule, branch-rule}
-use Rattle.rules.specs.Groups.{local_rule, local_claims, local_after, stack_rule, stack_claims, stack_after, leave_rule, leave_claims, new_rule, new_claims, new_after, local-rule, stack-rule, leave-rule, new-rule}
+use Rattle.rules.specs.Forms.{asked, turned, Kept, form_claims, plain-rule, branch-rule}
+use Rattle.rules.specs.Groups.{local_rule, local_claims, local_after, stack_rule, stack_claims, stack_after, leave_rule, leave_claims, new_claims, new_after, local-rule, stack-rule, leave-rule, new-rule}
 use Rattle.rules.specs.GroupLaws.{claims_of, own_claims, three_parts, claim_via}
 use Rattle.rules.specs.CallLaws.{virtual_rule, static-rule}
-use Rattle.rules.specs.Known.{Facts, key_fits, init_fits, made_class, readied, special_next, special_rule, special_claims, special_after, emptied, callee_in, virtual_takes, call_rule, call_claims', call_after', call_claims, call_after, instr_rule, instr_claims', instr_after', instr_claims, instr_after, call_hides, hides', hides}
+use Rattle.rules.specs.Known.{Facts, key_fits, init_fits, made_class, readied, special_rule, special_claims, special_after, emptied, callee_in, virtual_takes, call_rule, call_claims', call_after', call_claims, call_after, instr_rule, instr_claims', instr_after', instr_claims, instr_after, call_hides, hides', hides}
 use Rattle.rules.specs.declared.slots.Held.{Held}
 use Rattle.rules.specs.declared.instruction.Callee.{Callee}
 use Rattle.rules.specs.declared.instruction.Call.{Call}

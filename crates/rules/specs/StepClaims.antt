@@ -31,7 +31,6 @@ use Rattle.rules.specs.declared.frames.Rows.{Rows}
 use Rattle.rules.specs.declared.instruction.Plain.{Plain}
 use Rattle.rules.specs.declared.instruction.Plain.TheVariants.{Nop, Aconstnull, Pop, Ineg, Iaload, Iastore, Aastore, Iconst, Ibin, Idiv, Newarray, Checkcast, Instanceof, Getfield, Putfield}
 use Rattle.rules.specs.declared.instruction.Branch.{Branch}
-use Rattle.rules.specs.declared.instruction.Branch.TheVariants.{Goto, Ifint, Ificmp, Ifacmp, Ifnull}
 use Rattle.rules.specs.declared.instruction.Local.{Local}
 use Rattle.rules.specs.declared.instruction.Local.TheVariants.{Iload, Aload, Istore, Astore, Iinc}
 use Rattle.rules.specs.declared.instruction.Stack.{Stack}

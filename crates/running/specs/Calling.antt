@@ -1,24 +1,22 @@
 -- What an instruction that calls comes to, by the code's tests in the definition's order. Assumes nothing.
-use Rattle.std.specs.Prelude.{ℕ, zero, suc, ◌+◌, ◌-◌, ◌*◌, ◌/◌, ◌%◌, ◌<◌, ◌≤◌, ◌≡◌, refl, Bool, true, false, cond, not, ◌⊎◌, eqb, leb, length}
-use Rattle.std.proofs.Common.{sym, subst, ◌∙◌, inl, inr, arith, le-leb, lt-ltb, le-ltb, eq-eqb, ne_eqb, length-append}
+use Rattle.std.specs.Prelude.{ℕ, suc, ◌+◌, ◌-◌, ◌*◌, ◌<◌, ◌≤◌, ◌≡◌, refl, Bool, true, false, cond, not, ◌⊎◌, eqb, leb, length}
+use Rattle.std.proofs.Common.{sym, ◌∙◌, inl, inr, arith, le-leb, ne_eqb, length-append}
 use Rattle.std.proofs.Math.Path.{ap}
 use mathlib.Core.List.{List, [], ◌∷◌, reverse}
-use Rattle.std.proofs.lemmas.Bool.{lt-leb, not-true, not-false}
+use Rattle.std.proofs.lemmas.Bool.{lt-leb, not-false}
 use Rattle.kit.specs.Bools.{not_so}
 use Rattle.kit.specs.Pick.{side}
 use Rattle.reader.specs.BuiltIns.{first_class, null_pointer}
 use Rattle.classfiles.specs.Descriptors.{Desc}
 use Rattle.classfiles.specs.Members.{Body}
-use Rattle.reader.specs.Program.{Program, Method, method, program_of}
-use Rattle.reader.specs.Linked.{files_in}
+use Rattle.reader.specs.Program.{Program, Method}
 use Rattle.reader.specs.Lookup.{class-count}
 use Rattle.reader.specs.MemberRows.{block_at, row_count}
 use Rattle.reader.specs.MemberAt.{static_low, static_none, static_past}
 use Rattle.reader.specs.TypeCodes.{params_in, results_in}
 use Rattle.rules.specs.Ancestry.{Parents}
 use Rattle.rules.specs.InstructionWords.{callee_of}
-use Rattle.rules.specs.Resolve.{found}
-use Rattle.rules.specs.Types.{Ty, tys_of}
+use Rattle.rules.specs.Types.{tys_of}
 use Rattle.rules.specs.States.{receiver_tys, parameter_tys}
 use Rattle.rules.specs.Opcodes.{body}
 use Rattle.rules.specs.Sites.{front, site_body, program_at, method_at}
@@ -39,7 +37,7 @@ use Rattle.plain.specs.declared.frames.Frame.{Frame}
 use Rattle.plain.specs.declared.calls.Going.{Going}
 use Rattle.running.specs.declared.popping.Popped.{Popped}
 use Rattle.running.specs.declared.entering.Way.{Way}
-use Rattle.running.specs.Standing.{records, Row, method_by, AtCall, Standing, Passed, passed, row_small, few_operands}
+use Rattle.running.specs.Standing.{records, Row, method_by, AtCall, Standing, Passed, passed, few_operands}
 use Rattle.running.specs.Popping.{Pops, kin_of}
 use Rattle.running.specs.Entering.{Enterable, Into}
 

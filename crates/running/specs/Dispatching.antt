@@ -12,10 +12,10 @@ use Rattle.kit.specs.Bools.{not_so}
 use Rattle.kit.specs.Lists.{eq_list, eq_list_true, eq_list-eq}
 use Rattle.kit.specs.Pick.{side}
 use Rattle.kit.specs.Words.{word}
-use Rattle.texts.specs.Names.{Text, init, is_init}
+use Rattle.texts.specs.Names.{init, is_init}
 use Rattle.reader.specs.BuiltIns.{first_class, built_ins}
-use Rattle.classfiles.specs.Descriptors.{Desc, method_type_at}
-use Rattle.reader.specs.Program.{Program, Class, Method, no_class, no_method, built_in_method, built_ins_from, classes_from, method_of, method_type_or, Signature, signature, class, method, class_count, program_of, up_to, below, same_signature, index_of, method_sigs, Spot, nowhere, spot, seek, lookup}
+use Rattle.classfiles.specs.Descriptors.{method_type_at}
+use Rattle.reader.specs.Program.{Program, Class, Method, no_class, no_method, built_in_method, built_ins_from, method_of, method_type_or, Signature, signature, class, method, class_count, program_of, up_to, below, same_signature, index_of, method_sigs, Spot, nowhere, spot, seek, lookup}
 use Rattle.reader.specs.Linked.{files_in}
 use Rattle.reader.specs.Lookup.{class_past, built_in_class}
 use Rattle.reader.specs.MemberRows.{block_at, row_count, row_at}

@@ -1,14 +1,13 @@
 -- From a call into another, with all but the records of the calls that wait kept. Assumes nothing.
-use Rattle.std.specs.Prelude.{ℕ, ◌+◌, ◌-◌, ◌*◌, ◌/◌, ◌<◌, ◌≤◌, ◌≡◌, refl, List, length}
-use Rattle.std.proofs.Common.{sym, ap, subst, ◌∙◌, arith}
+use Rattle.std.specs.Prelude.{ℕ, ◌+◌, ◌-◌, ◌*◌, ◌<◌, ◌≤◌, ◌≡◌, refl, List, length}
+use Rattle.std.proofs.Common.{sym, ◌∙◌, arith}
 use Rattle.kit.specs.Words.{word, put_word}
 use Rattle.texts.specs.Reading.{u2_at}
 use Rattle.classfiles.specs.Blocks.{method_rows}
 use Rattle.reader.specs.MemberRows.{block_at}
-use Rattle.reader.specs.Program.{method}
 use Rattle.rules.specs.Opcodes.{body}
 use Rattle.rules.specs.Sites.{front}
-use Rattle.verifier.specs.Besides.{Besides, besides_none, besides_put, besides_wide}
+use Rattle.verifier.specs.Besides.{Besides, besides_none, besides_put}
 use Rattle.shaping.specs.Phases.{program_now}
 use Rattle.plain.specs.Machine.{Here, enter}
 use Rattle.plain.specs.Windows.{ops_of}

@@ -1,5 +1,5 @@
 -- The entry of a run, and its first call as the code lays it out. Assumes nothing.
-use Rattle.std.specs.Prelude.{ℕ, zero, suc, ◌+◌, ◌-◌, ◌*◌, ◌/◌, ◌%◌, ◌<◌, ◌≤◌, ◌≡◌, Bool, not, List, [], ◌∷◌, ◌++◌, map, ◌⊎◌, eqb, length, get_or, set, take, drop, replicate}
+use Rattle.std.specs.Prelude.{ℕ, zero, suc, ◌+◌, ◌-◌, ◌*◌, ◌/◌, ◌%◌, ◌<◌, ◌≤◌, ◌≡◌, Bool, not, List, [], ◌∷◌, ◌++◌, map, ◌⊎◌, eqb, length, get_or, set, drop, replicate}
 use Rattle.std.proofs.Math.Path.{refl, ap}
 use Rattle.std.proofs.Common.{sym, subst, ◌∙◌, inl, inr, zero-add, add-zero, suc-add, add-suc, add-one, length-append, drop_of_length-le, drop-cons, get_or-set_same, get_or-set_other}
 use Rattle.std.proofs.Math.Bool.{true, false, cond}

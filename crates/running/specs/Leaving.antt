@@ -1,7 +1,7 @@
 -- What an instruction that returns comes to, by the code's tests. Assumes nothing.
-use Prim.Native.Nat.{ℕ, zero, suc, ◌+◌, ◌-◌, ◌*◌, ◌^◌, ◌<◌, ◌≤◌}
+use Prim.Native.Nat.{ℕ, suc, ◌+◌, ◌-◌, ◌^◌, ◌<◌, ◌≤◌}
 use Rattle.std.specs.Prelude.{◌≡◌, refl, Bool, true, false, cond, not, eqb, length}
-use Rattle.std.proofs.Common.{sym, subst, ◌∙◌}
+use Rattle.std.proofs.Common.{sym, ◌∙◌}
 use Rattle.std.proofs.Math.Path.{ap}
 use mathlib.Core.List.{List, [], ◌∷◌}
 use native.Mathlib.Omega.{arith}
@@ -10,12 +10,12 @@ use Rattle.kit.specs.Bools.{not_so}
 use Rattle.classfiles.specs.Descriptors.{Desc, dint, dref}
 use Rattle.reader.specs.Program.{Program, Method}
 use Rattle.reader.specs.TypeCodes.{results_in, result_of, desc_of as code_desc}
-use Rattle.rules.specs.Ancestry.{lineage, Parents}
+use Rattle.rules.specs.Ancestry.{lineage}
 use Rattle.rules.specs.Types.{is_dint}
 use Rattle.rules.specs.Rule.{returns_int, returns_ref, returns_void}
 use Rattle.rules.specs.Sites.{front}
-use Rattle.shaping.specs.Phases.{Readied, program_now}
-use Rattle.plain.specs.Heap.{Heap, heap, Val, empty, num, ref, value_fits}
+use Rattle.shaping.specs.Phases.{program_now}
+use Rattle.plain.specs.Heap.{Heap, heap, Val, empty, value_fits}
 use Rattle.plain.specs.Machine.{stuck, Result, stopped, ended, returned, Here, method_at, only, pop_arguments, give_back}
 use Rattle.plain.specs.Step.{self_ready, leave, leave_with}
 use Rattle.plain.specs.Objects.{self_here, fits_here}
@@ -24,10 +24,9 @@ use Rattle.plain.specs.Windows.{val_at, ops_of}
 use Rattle.plain.specs.Calls.{window_at, frame_at, waiting}
 use Rattle.plain.specs.CallSteps.{Lent, Runs, going_of, Gives, back_last}
 use Rattle.plain.specs.declared.frames.Frame.{Frame}
-use Rattle.plain.specs.declared.calls.Going.{Going}
 use Rattle.plain.specs.declared.values.Value.{Value}
 use Rattle.running.specs.declared.leaving.Left.{Left}
-use Rattle.running.specs.Standing.{records, Row, method_by, Placed, Standing, innermost, standing-back, passed, few_operands}
+use Rattle.running.specs.Standing.{records, method_by, Standing, innermost, standing-back, passed}
 use Rattle.running.specs.Calling.{entry_at, entry_small, results_are, parents_of}
 
 -- ---- what the code's answer stands for: end 1 is out of the run, with a value unless its tag is empty's

@@ -1,5 +1,5 @@
 -- A callee's arguments by the types that the tables keep of it: the code's test of each, and what is left of the operands. Assumes nothing.
-use Prim.Native.Nat.{ℕ, zero, suc, ◌+◌, ◌-◌, ◌*◌, ◌%◌, ◌<◌, ◌≤◌}
+use Prim.Native.Nat.{ℕ, zero, suc, ◌+◌, ◌-◌, ◌*◌, ◌<◌, ◌≤◌}
 use Rattle.std.specs.Prelude.{◌≡◌, refl, true, false, ◌&&◌, take, drop}
 use Rattle.std.proofs.Math.Path.{sym, ap}
 use Rattle.std.proofs.Common.{subst, ◌∙◌, eq-eqb, ne_eqb}
@@ -20,7 +20,7 @@ use Rattle.reader.specs.TypeCodes.{desc_of, types_of, codes_in, params_in, resul
 use Rattle.reader.specs.CodeLaws.{params-length}
 use Rattle.rules.specs.Ancestry.{lineage, Parents}
 use Rattle.plain.specs.Heap.{Heap, heap, Val, value_fits}
-use Rattle.plain.specs.Machine.{stuck, Result, stopped, only, pop_arguments}
+use Rattle.plain.specs.Machine.{Result, only, pop_arguments}
 use Rattle.plain.specs.Objects.{fits_here}
 use Rattle.plain.specs.ValueLaws.{value_of}
 use Rattle.plain.specs.Windows.{val_at, locs_from, ops_of}

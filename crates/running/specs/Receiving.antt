@@ -1,11 +1,11 @@
 -- Calls with a receiver: what stands below the arguments, and a constructor's call. Assumes nothing.
-use Prim.Native.Nat.{ℕ, zero, suc, ◌+◌, ◌-◌, ◌*◌, ◌<◌, ◌≤◌}
+use Prim.Native.Nat.{ℕ, zero, suc, ◌+◌, ◌-◌, ◌<◌, ◌≤◌}
 use Rattle.std.specs.Prelude.{◌≡◌, Bool, true, false, cond, not, ◌⊎◌, eqb, leb, ltb, length, get_or, set}
 use Rattle.std.proofs.Math.Path.{refl, ap}
-use Rattle.std.proofs.Common.{sym, subst, ◌∙◌, inl, inr, add-suc}
+use Rattle.std.proofs.Common.{sym, ◌∙◌, inl, inr, add-suc}
 use mathlib.Core.List.{List, [], ◌∷◌, reverse}
 use native.Mathlib.Omega.{arith}
-use borrow.Author.Tests.{lt-leb, le-leb, lt-ltb, le-ltb, eq-eqb, ne_eqb, not-true, not-false}
+use borrow.Author.Tests.{le-leb, lt-ltb, le-ltb, not-true, not-false}
 use Rattle.std.proofs.Math.ListN.{get_or-eq_default}
 use Rattle.kit.specs.Bools.{not_so}
 use Rattle.kit.specs.Lists.{eq_list}
@@ -18,22 +18,21 @@ use Rattle.reader.specs.Linked.{files_in}
 use Rattle.reader.specs.Lookup.{class_past, built_in_class}
 use Rattle.reader.specs.MemberRows.{block_at, row_count}
 use Rattle.reader.specs.MemberAt.{methods-count}
-use Rattle.reader.specs.TypeCodes.{params_in, results_in, result_at, types_of, desc_of}
-use Rattle.rules.specs.Ancestry.{lineage, Parents}
+use Rattle.reader.specs.TypeCodes.{results_in, result_at, types_of, desc_of}
+use Rattle.rules.specs.Ancestry.{lineage}
 use Rattle.rules.specs.InstructionWords.{callee_of}
-use Rattle.rules.specs.Types.{ref_fits}
 use Rattle.rules.specs.Opcodes.{body}
 use Rattle.rules.specs.Sites.{front}
-use Rattle.verifier.specs.Besides.{Besides, besides_none}
+use Rattle.verifier.specs.Besides.{besides_none}
 use Rattle.shaping.specs.Phases.{program_now}
-use Rattle.plain.specs.Heap.{Heap, heap, Val, empty, num, ref, ready_at, type_at, to_cell, mark_ready, store}
-use Rattle.plain.specs.Machine.{stuck, Result, next, stopped, Here, only, pop_any, pop_arguments, resumed, go_on, push_on, enter}
+use Rattle.plain.specs.Heap.{Heap, heap, Val, empty, num, ref, to_cell, mark_ready, store}
+use Rattle.plain.specs.Machine.{stuck, Result, next, stopped, Here, only, pop_any, pop_arguments, resumed, go_on, enter}
 use Rattle.plain.specs.Step.{with_unready, construct, call_init}
 use Rattle.plain.specs.ValueLaws.{value_of}
 use Rattle.plain.specs.Objects.{unmade, unready_by, unmade_here}
-use Rattle.plain.specs.Windows.{val_at, locs_from, locs_of, ops_of, length_ops}
-use Rattle.plain.specs.Calls.{window_at, waiting}
-use Rattle.plain.specs.CallSteps.{Lent, Runs, going_of, args_at}
+use Rattle.plain.specs.Windows.{val_at, locs_from, ops_of, length_ops}
+use Rattle.plain.specs.Calls.{window_at}
+use Rattle.plain.specs.CallSteps.{going_of}
 use Rattle.rules.specs.declared.site.Site.{Site}
 use Rattle.rules.specs.declared.instruction.Callee.{Callee}
 use Rattle.plain.specs.declared.frames.Frame.{Frame}
@@ -41,10 +40,10 @@ use Rattle.plain.specs.declared.calls.Going.{Going}
 use Rattle.plain.specs.declared.values.Value.{Value}
 use Rattle.running.specs.declared.popping.Popped.{Popped}
 use Rattle.running.specs.declared.entering.Way.{Way}
-use Rattle.running.specs.Standing.{records, Row, method_by, AtCall, Standing, Passed, passed, standing-turn}
+use Rattle.running.specs.Standing.{records, Row, method_by, passed, standing-turn}
 use Rattle.running.specs.Popping.{Pops, kin_of}
 use Rattle.running.specs.Entering.{Enterable, Into}
-use Rattle.running.specs.Calling.{At, called_of, Called, called-stuck, called_into, Calling, entry_at, entry_small, params_are, results_are, parents_of, args_fit, stack_is}
+use Rattle.running.specs.Calling.{At, Called, called-stuck, called_into, Calling, entry_at, entry_small, params_are, results_are, parents_of, args_fit}
 
 -- ---- the receiver, below the arguments
 pub args_below : (w g : List ℕ) (l n : ℕ) → val_at w g (32 + l) ∷ locs_from w g (32 + suc l) n ≡ locs_from w g (32 + l) (suc n)

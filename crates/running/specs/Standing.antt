@@ -1,8 +1,8 @@
 -- The run's state read back, and what is so of it at every instruction. Assumes nothing.
-use Prim.Native.Nat.{ℕ, zero, suc, ◌+◌, ◌-◌, ◌*◌, ◌/◌, ◌<◌, ◌≤◌}
+use Prim.Native.Nat.{ℕ, zero, suc, ◌+◌, ◌-◌, ◌*◌, ◌<◌, ◌≤◌}
 use Rattle.std.specs.Prelude.{◌≡◌, refl, Bool, true, false, cond, ◌⊎◌, eqb, length}
 use Rattle.std.proofs.Math.Path.{sym, ap, subst}
-use Rattle.std.proofs.Common.{◌∙◌, inl, inr, add-zero}
+use Rattle.std.proofs.Common.{◌∙◌, inl, inr}
 use mathlib.Core.List.{List}
 use native.Mathlib.Omega.{arith}
 use Rattle.kit.specs.Bools.{not_so}
@@ -17,7 +17,7 @@ use Rattle.classfiles.specs.Attributes.{found_of, body_of, member_of}
 use Rattle.reader.specs.Program.{Method, method, method_of, program_of}
 use Rattle.reader.specs.Linked.{files_in}
 use Rattle.reader.specs.MemberRows.{block_at, rows_word, row_count, row_at}
-use Rattle.reader.specs.MemberAt.{number_as, method-at}
+use Rattle.reader.specs.MemberAt.{method-at}
 use Rattle.reader.specs.FileLimits.{Fits, BodyFits}
 use Rattle.rules.specs.States.{parameter_tys}
 use Rattle.rules.specs.Opcodes.{only_body, body, code_of, size_at}

@@ -1,5 +1,5 @@
 -- A virtual call, by the code's tests in the definition's order. Assumes nothing.
-use Prim.Native.Nat.{ℕ, zero, suc, ◌+◌, ◌-◌, ◌*◌, ◌/◌, ◌%◌, ◌<◌, ◌≤◌}
+use Prim.Native.Nat.{ℕ, suc, ◌+◌, ◌-◌, ◌/◌, ◌%◌, ◌<◌, ◌≤◌}
 use Rattle.std.specs.Prelude.{◌≡◌, refl, Bool, true, false, cond, not, eqb, leb, length, get_or}
 use Rattle.std.proofs.Math.Path.{sym, ap}
 use Rattle.std.proofs.Common.{subst, ◌∙◌}
@@ -10,7 +10,7 @@ use Rattle.kit.specs.Bools.{not_so}
 use Rattle.kit.specs.Words.{word}
 use Rattle.reader.specs.BuiltIns.{first_class, null_pointer}
 use Rattle.classfiles.specs.Descriptors.{Ref, cls, dref}
-use Rattle.reader.specs.Program.{Program, Method, Signature, method, is_constructor, below, method_sigs, Spot, nowhere, spot, lookup}
+use Rattle.reader.specs.Program.{Program, Method, Signature, is_constructor, below, method_sigs, spot, lookup}
 use Rattle.reader.specs.TypeCodes.{results_in}
 use Rattle.rules.specs.Ancestry.{lineage}
 use Rattle.rules.specs.InstructionWords.{callee_of}
@@ -19,8 +19,8 @@ use Rattle.rules.specs.Opcodes.{body}
 use Rattle.rules.specs.Sites.{front}
 use Rattle.verifier.specs.Besides.{besides_none}
 use Rattle.shaping.specs.Phases.{program_now}
-use Rattle.plain.specs.Heap.{Heap, heap, Val, empty, num, ref, ready_at, ref_of, type_at, to_cell, refers_to, value_fits}
-use Rattle.plain.specs.Machine.{stuck, Result, stopped, Here, only, pop_any, pop_arguments, result_room, receiver, with_class, fault, enter}
+use Rattle.plain.specs.Heap.{Heap, heap, Val, empty, num, ref, ready_at, type_at, refers_to, value_fits}
+use Rattle.plain.specs.Machine.{Result, Here, only, pop_any, pop_arguments, result_room, receiver, with_class, fault, enter}
 use Rattle.plain.specs.Step.{chosen, call_virtual}
 use Rattle.plain.specs.ValueLaws.{value_of}
 use Rattle.plain.specs.Objects.{null_or, receiver_by, class_by, fits_here}
@@ -34,10 +34,10 @@ use Rattle.plain.specs.declared.calls.Going.{Going}
 use Rattle.plain.specs.declared.values.Value.{Value}
 use Rattle.running.specs.declared.popping.Popped.{Popped}
 use Rattle.running.specs.declared.entering.Way.{Way}
-use Rattle.running.specs.Standing.{records, Row, method_by, Standing, passed}
+use Rattle.running.specs.Standing.{records, Row, method_by, passed}
 use Rattle.running.specs.Popping.{Pops, kin_of}
 use Rattle.running.specs.Entering.{Enterable, Into}
-use Rattle.running.specs.Calling.{At, Called, called-stuck, called_into, Calling, entry_at, entry_small, params_are, results_are, parents_of, args_fit, stack_is, room_by}
+use Rattle.running.specs.Calling.{At, Called, called-stuck, called_into, Calling, entry_at, params_are, results_are, parents_of, args_fit, stack_is, room_by}
 use Rattle.running.specs.Receiving.{args_below, taken_unfit, taken_none, taken_one}
 use Rattle.running.specs.Dispatching.{spot_word, spot_of, Dispatch, Stood, lookup_stood, stood_row, same_params, same_results, below_bundle}
 

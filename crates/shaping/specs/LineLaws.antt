@@ -1,6 +1,6 @@
 -- Laws of a method's lines: the rest of them from an offset on, which ends where the code does. Assumes nothing.
 use Prim.Native.Nat.{ℕ, zero, suc, ◌+◌, ◌-◌, ◌<◌, ◌≤◌}
-use Rattle.std.specs.Prelude.{◌≡◌, Bool, not, leb}
+use Rattle.std.specs.Prelude.{◌≡◌, Bool}
 use Rattle.std.proofs.Math.Path.{refl, sym, ap}
 use Rattle.std.proofs.Common.{◌∙◌}
 use Rattle.std.proofs.Math.Bool.{true, false, cond}
@@ -8,13 +8,13 @@ use mathlib.Core.List.{List, [], ◌∷◌}
 use native.Mathlib.Omega.{arith}
 use Rattle.std.proofs.Math.Dec.{eqb, ltb}
 use Rattle.std.proofs.Math.ListN.{length}
-use borrow.Author.Tests.{eq-eqb, ne_eqb, lt-ltb, le-ltb, lt-leb, le-leb, ltb-true, ltb-false, eqb-false}
+use borrow.Author.Tests.{eq-eqb, ne_eqb, lt-ltb, le-ltb, lt-leb, le-leb, ltb-true, eqb-false}
 use Rattle.kit.specs.Claims.{Ruling, fail, verdict, verdict_yes, verdict_no}
 use Rattle.reader.specs.Verdicts.{Fault, fault}
 use Rattle.reader.specs.Program.{Program, Method}
-use Rattle.rules.specs.Instruction.{Instr, is_new, form_ok}
+use Rattle.rules.specs.Instruction.{Instr, form_ok}
 use Rattle.rules.specs.Opcodes.{body, code_of, instruction, size_at}
-use Rattle.rules.specs.Lines.{Line, line, lines_from, lines, is_start, is_new_at}
+use Rattle.rules.specs.Lines.{Line, line, lines_from, lines}
 use Rattle.rules.specs.Shape.{line_ok, form_claims}
 use Rattle.shaping.specs.Marks.{mark_in}
 

@@ -1,23 +1,19 @@
 -- Laws of marks: the scan's turns, and what a mark says of an offset. Assumes nothing.
-use Rattle.std.specs.Prelude.{ℕ, zero, suc, ◌+◌, ◌-◌, ◌<◌, ◌≤◌, ◌≡◌, Bool, true, false, cond, not, ◌⊎◌, eqb, ltb, length, get_or, set, take, drop, replicate}
+use Rattle.std.specs.Prelude.{ℕ, ◌+◌, ◌<◌, ◌≤◌, ◌≡◌, Bool, true, false, cond, not, ◌⊎◌, eqb, length, get_or, set, take, drop, replicate}
 use Rattle.std.proofs.Math.Path.{refl, ap}
-use Rattle.std.proofs.Common.{sym, subst, ◌∙◌, inl, inr, arith, length-set, take-take, length-take-le, eq-eqb, ne_eqb, eqb-true}
+use Rattle.std.proofs.Common.{sym, subst, ◌∙◌, inl, inr, arith, take-take, length-take-le, eq-eqb, ne_eqb}
 use mathlib.Core.List.{List, [], ◌∷◌, ◌++◌}
 use Rattle.std.proofs.lemmas.List.{length-replicate, take-set-le, take-append-le}
 use Rattle.std.proofs.Math.Seq.{get_or-set_same, get_or-set_other}
-use Rattle.std.proofs.lemmas.Bool.{eqb-false, not-true, not-false}
 use Rattle.kit.specs.Pick.{side}
 use Rattle.kit.specs.Lists.{length_part, length_back, get_or-back_in, get_or-replicate_same}
-use Rattle.kit.specs.Claims.{Ruling, pass, fail, verdict, verdict_none}
-use Rattle.reader.specs.Verdicts.{Fault, fault}
 use Rattle.reader.specs.Program.{Program, Method}
-use Rattle.rules.specs.Instruction.{Instr, is_new, form_ok}
-use Rattle.rules.specs.Opcodes.{body, code_of, instruction, size_at}
+use Rattle.rules.specs.Instruction.{Instr, is_new}
+use Rattle.rules.specs.Opcodes.{code_of, instruction, size_at}
 use Rattle.rules.specs.Lines.{Line, line, lines, is_start, is_new_at}
-use Rattle.rules.specs.Shape.{form_claims}
 use Rattle.rules.specs.Sites.{front}
 use Rattle.shaping.specs.Marks.{mark_at, mark_in, Cleared, Marked}
-use Rattle.shaping.specs.LineLaws.{rest, rest_all, rest_end, rest_more, rest-before, lines_after}
+use Rattle.shaping.specs.LineLaws.{rest, rest_all, rest_more, rest-before, lines_after}
 
 -- ---- what a mark says
 pub start_is : (ls : List Line) (j : ℕ) → is_start ls j ≡ not (eqb (mark_in ls j) 0)

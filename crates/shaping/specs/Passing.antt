@@ -4,16 +4,16 @@ use Rattle.std.specs.Prelude.{◌≡◌, Bool, cond, eqb, leb, length, get_or}
 use Rattle.std.proofs.Math.Path.{refl, ap}
 use Rattle.std.proofs.Common.{sym, subst, ◌∙◌, le_of_suc-le-suc, length-drop, get_or-drop}
 use Rattle.std.proofs.Math.Bool.{true, false}
-use mathlib.Core.List.{List, [], ◌∷◌, ◌++◌}
+use mathlib.Core.List.{List, [], ◌∷◌}
 use native.Mathlib.Omega.{arith}
-use borrow.Author.Tests.{eq-eqb, ne_eqb, eqb-true, leb-true}
+use borrow.Author.Tests.{eqb-true, leb-true}
 use Rattle.kit.specs.Bools.{not_so}
-use Rattle.kit.specs.Claims.{Claim, claim, Ruling, pass, verdict, then, relabel, fail_pass, then_pass_left, then_pass_right, relabel_pass, verdict-append}
+use Rattle.kit.specs.Claims.{Claim, claim, Ruling, pass, verdict, relabel, fail_pass, then_pass_left, then_pass_right, relabel_pass, verdict-append}
 use Rattle.reader.specs.Verdicts.{Fault, fault, in_method}
-use Rattle.classfiles.specs.Members.{Found, none, once, twice, Body}
+use Rattle.classfiles.specs.Members.{none, once, twice, Body}
 use Rattle.classfiles.specs.Attributes.{found_of}
 use Rattle.reader.specs.BuiltIns.{first_class}
-use Rattle.reader.specs.Program.{Program, Class, Method, no_class, no_method, class, method, program_of}
+use Rattle.reader.specs.Program.{Program, Class, Method, no_class, no_method, class, method}
 use Rattle.reader.specs.Lookup.{class-count}
 use Rattle.reader.specs.MemberRows.{block_at, row_count}
 use Rattle.reader.specs.MemberAt.{methods-count}

@@ -1,14 +1,14 @@
 -- Laws of the scan that marks a method's instructions: its turns and its ends. Assumes nothing.
-use Rattle.std.specs.Prelude.{ℕ, ◌+◌, ◌-◌, ◌<◌, ◌≤◌, ◌≡◌, refl, set, take, drop}
+use Rattle.std.specs.Prelude.{ℕ, ◌+◌, ◌-◌, ◌<◌, ◌≤◌, ◌≡◌, refl, set}
 use Rattle.std.proofs.Math.Path.{sym, ap, subst}
 use Rattle.std.proofs.Common.{◌∙◌, arith, length-set}
-use mathlib.Core.List.{List, []}
+use mathlib.Core.List.{List}
 use Rattle.std.proofs.Math.ListN.{length}
 use Rattle.kit.specs.Lists.{length_part}
-use Rattle.kit.specs.Claims.{Ruling, pass, fail, verdict, verdict_none}
+use Rattle.kit.specs.Claims.{fail, verdict, verdict_none}
 use Rattle.texts.specs.Reading.{part}
 use Rattle.classfiles.specs.Members.{Body}
-use Rattle.reader.specs.Verdicts.{Fault, fault}
+use Rattle.reader.specs.Verdicts.{fault}
 use Rattle.reader.specs.Program.{Program, Method}
 use Rattle.rules.specs.Instruction.{Instr}
 use Rattle.rules.specs.Opcodes.{body, code_of, instruction, size_at}
@@ -17,7 +17,7 @@ use Rattle.rules.specs.Shape.{form_claims}
 use Rattle.rules.specs.Sites.{front, site_code, site_body, Sited, Bounded, program_at, method_at, KnowsInit, Here}
 use Rattle.shaping.specs.Asks.{Says, mark_by, mark_zero, mark_some}
 use Rattle.shaping.specs.SiteLaws.{one_body, code_is, site_says}
-use Rattle.shaping.specs.Marks.{ruled_as, mark_at, lines_at, Cleared, Marked, Scanned, Ready}
+use Rattle.shaping.specs.Marks.{lines_at, Cleared, Marked, Scanned, Ready}
 use Rattle.shaping.specs.LineLaws.{rest, rest_all, rest_end, form_unlisted, form_cut, form_bad, form_good}
 use Rattle.shaping.specs.MarkLaws.{marked_front, Marking, marking_start, marking_turn, marking_end}
 use Rattle.rules.specs.declared.site.Site.{Site}

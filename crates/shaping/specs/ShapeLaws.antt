@@ -1,25 +1,24 @@
 -- Laws of phase C over a method at a site: references, the exception table, the whole. Assumes nothing.
-use Prim.Native.Nat.{ℕ, zero, suc, ◌+◌, ◌-◌, ◌*◌, ◌<◌, ◌≤◌}
+use Prim.Native.Nat.{ℕ, zero, suc, ◌+◌, ◌-◌, ◌<◌, ◌≤◌}
 use Rattle.std.proofs.Math.Path.{◌≡◌, refl, sym, ap, subst}
 use Rattle.std.proofs.Common.{◌∙◌, arith, not-suc-le-zero, sub-one, eq-eqb, ne_eqb, eqb-true, lt-ltb, le-ltb}
-use Rattle.std.specs.Prelude.{Bool, not, eqb, ltb, leb, length, take}
+use Rattle.std.specs.Prelude.{Bool, not, eqb, ltb, length}
 use Rattle.std.proofs.Math.Bool.{true, false, cond}
-use mathlib.Core.List.{List, [], ◌∷◌, ◌++◌}
+use mathlib.Core.List.{List, [], ◌∷◌}
 use Rattle.std.proofs.lemmas.Bool.{eqb-false, not-true, not-false}
-use Rattle.kit.specs.Words.{word, word-take}
-use Rattle.kit.specs.Claims.{Claim, claim, Ruling, pass, fail, verdict, then, verdict_none, verdict_yes, verdict_no, verdict-append, pass_then, fail_then}
+use Rattle.kit.specs.Words.{word-take}
+use Rattle.kit.specs.Claims.{claim, Ruling, pass, fail, verdict, verdict_none, verdict_yes, verdict_no}
 use Rattle.texts.specs.Reading.{u2_at}
 use Rattle.reader.specs.Verdicts.{Fault, fault}
 use Rattle.reader.specs.BuiltIns.{first_class, throwable}
-use Rattle.classfiles.specs.Members.{Handler}
 use Rattle.classfiles.specs.Attributes.{handlers_from}
-use Rattle.reader.specs.Program.{Program, Method, class, class_count, below}
+use Rattle.reader.specs.Program.{Program, Method, class_count, below}
 use Rattle.rules.specs.Instruction.{Instr, targets, resolved}
-use Rattle.rules.specs.Opcodes.{body, code_of, instruction, size_at}
-use Rattle.rules.specs.Lines.{Line, line, lines, is_start}
-use Rattle.rules.specs.Shape.{all_starts, reach_claims, reference_claims, range_ok, catch_class, catch_ok, table_claims}
+use Rattle.rules.specs.Opcodes.{code_of, instruction, size_at}
+use Rattle.rules.specs.Lines.{Line, line, is_start}
+use Rattle.rules.specs.Shape.{all_starts, reference_claims, range_ok, catch_class, catch_ok, table_claims}
 use Rattle.rules.specs.Ancestry.{lineage, Parents, below_lineage}
-use Rattle.rules.specs.Sites.{front, site_code, Sited, Bounded, program_at, method_at, Here}
+use Rattle.rules.specs.Sites.{front, site_code, program_at, method_at}
 use Rattle.shaping.specs.Asks.{Says, refer_by}
 use Rattle.shaping.specs.SiteLaws.{word-front, site_says}
 use Rattle.shaping.specs.Marks.{ruled_as, lines_at, Ready}
@@ -27,7 +26,6 @@ use Rattle.shaping.specs.LineLaws.{rest, rest_all, rest_end, rest_last, rest_mor
 use Rattle.shaping.specs.ScanLaws.{code_here, code-length}
 use Rattle.rules.specs.Handlers.{entry_at, catch_in, catch_is}
 use Rattle.rules.specs.declared.site.Site.{Site}
-use Rattle.rules.specs.declared.site.Ruled.{Ruled}
 
 -- ---- 12 and 13 of the line at o: R is what all of them come to
 module _ (P : Program) (M : Method) (all : List Line) (o n : ℕ) (i : Instr) (R : Ruling Fault) (v : verdict (reference_claims all (rest P M o)) ≡ R) (h : o < length (code_of M)) (en : n ≡ size_at (code_of M) o) (ei : i ≡ instruction P M o) where

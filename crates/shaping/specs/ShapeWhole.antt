@@ -1,23 +1,23 @@
 -- Laws of phase C of a method whole: its parts in order. Assumes nothing.
-use Rattle.std.specs.Prelude.{ℕ, zero, suc, ◌+◌, ◌*◌, ◌%◌, ◌<◌, ◌≤◌, ◌≡◌, refl, Bool, true, false, cond, eqb, leb, length, get_or, take}
+use Rattle.std.specs.Prelude.{ℕ, zero, suc, ◌+◌, ◌*◌, ◌%◌, ◌<◌, ◌≤◌, ◌≡◌, refl, Bool, true, false, cond, eqb, leb, length, get_or}
 use Rattle.std.proofs.Math.Path.{sym, ap}
-use Rattle.std.proofs.Common.{◌∙◌, arith, add-one, length-append, get_or-take, eq-eqb, ne_eqb, le-leb, eqb-true}
+use Rattle.std.proofs.Common.{◌∙◌, arith, add-one, length-append, get_or-take, eq-eqb, ne_eqb, le-leb}
 use mathlib.Core.List.{List, [], ◌∷◌, ◌++◌}
 use Rattle.std.proofs.lemmas.Bool.{lt-leb, eqb-false}
-use Rattle.kit.specs.Claims.{Claim, claim, Ruling, pass, fail, verdict, then, then_assoc, verdict_none, verdict_yes, verdict_no, verdict-append, pass_then, fail_then}
+use Rattle.kit.specs.Claims.{Ruling, pass, fail, verdict, then, then_assoc, verdict_none, verdict_yes, verdict_no, verdict-append, pass_then, fail_then}
 use Rattle.reader.specs.Verdicts.{Fault, fault}
 use Rattle.classfiles.specs.Descriptors.{Desc}
-use Rattle.classfiles.specs.Members.{Found, none, once, twice, Body, Handler}
+use Rattle.classfiles.specs.Members.{none, once, twice, Body, Handler}
 use Rattle.classfiles.specs.Attributes.{found_of}
 use Rattle.classfiles.specs.Blocks.{listed}
 use Rattle.reader.specs.TypeCodes.{types_of, codes_in, params_in}
 use Rattle.reader.specs.Program.{Program, Method}
-use Rattle.rules.specs.Types.{Ty, tys_of}
+use Rattle.rules.specs.Types.{tys_of}
 use Rattle.rules.specs.States.{receiver_tys, parameter_tys}
-use Rattle.rules.specs.Opcodes.{body, only_body}
+use Rattle.rules.specs.Opcodes.{body}
 use Rattle.rules.specs.Lines.{Line, lines}
 use Rattle.rules.specs.Shape.{is_once, not_twice, body_claims, form_claims, reference_claims, table_claims, shape_claims}
-use Rattle.rules.specs.Sites.{front, site_body, site_frames, Sited, program_at, method_at, Here}
+use Rattle.rules.specs.Sites.{front, site_body, site_frames, program_at, method_at, Here}
 use Rattle.shaping.specs.Marks.{ruled_as, lines_at, Scanned, Ready}
 use Rattle.shaping.specs.ScanLaws.{ready-after, body_here}
 use Rattle.shaping.specs.Shaping.{table_of, Begun, end_claims, Shaped}

@@ -1,12 +1,12 @@
 -- Laws of sites: the method's body, and its instructions as they are decoded from any scratch with the same front. Assumes nothing.
-use Prim.Native.Nat.{ℕ, zero, suc, ◌+◌, ◌-◌, ◌*◌, ◌/◌, ◌<◌, ◌≤◌}
-use Rattle.std.specs.Prelude.{◌≡◌, refl, Bool, true, false, cond, ◌⊎◌, eqb, ltb, length, get_or, take}
+use Prim.Native.Nat.{ℕ, ◌+◌, ◌<◌, ◌≤◌}
+use Rattle.std.specs.Prelude.{◌≡◌, refl, cond, ◌⊎◌, ltb, get_or}
 use Rattle.std.proofs.Common.{sym, subst, ◌∙◌, inl, inr, arith, lt-ltb, le-ltb}
 use Rattle.std.proofs.Math.Path.{ap, fun_ext}
-use mathlib.Core.List.{List, [], ◌∷◌}
+use mathlib.Core.List.{List}
 use Rattle.kit.specs.Pick.{side}
 use Rattle.kit.specs.Words.{word, word-take}
-use Rattle.classfiles.specs.Members.{Body, once}
+use Rattle.classfiles.specs.Members.{Body}
 use Rattle.classfiles.specs.Attributes.{found_of}
 use Rattle.reader.specs.Program.{Program, Method, class}
 use Rattle.rules.specs.Instruction.{Instr}
@@ -15,7 +15,7 @@ use Rattle.rules.specs.Opcodes.{Row, row, row_of, only_body, body, code_of, make
 use Rattle.rules.specs.InstructionWords.{instr_of}
 use Rattle.rules.specs.ResolvedWords.{resolved_word, word_of, resolved_of, resolved_in, Flagged}
 use Rattle.rules.specs.Decoding.{made_by, made, DecodedAt}
-use Rattle.rules.specs.Sites.{front, site_code, site_body, Sited, Bounded, program_at, method_at, Here}
+use Rattle.rules.specs.Sites.{front, site_code, site_body, Sited, program_at, method_at, Here}
 use Rattle.shaping.specs.Asks.{Says}
 use Rattle.rules.specs.declared.instruction.Instr as code
 use Rattle.rules.specs.declared.site.Site.{Site}

@@ -1,5 +1,5 @@
 -- Traits of the code's groups of instructions. Assumes nothing.
-use Rattle.std.specs.Prelude.{ℕ, ◌<◌, ◌≡◌, refl, Bool, true, false, cond, List, [], ◌∷◌, ltb}
+use Rattle.std.specs.Prelude.{ℕ, ◌≡◌, refl, Bool, true, false, cond, List, [], ◌∷◌}
 use Rattle.std.proofs.Common.{sym, ap, ◌∙◌}
 use Rattle.rules.specs.Instruction.{Traits, going, ordinary, traits, targets, resolved, form_ok, is_new}
 use Rattle.rules.specs.Lines.{Line, is_start}

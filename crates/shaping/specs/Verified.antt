@@ -1,20 +1,20 @@
 -- All phases in order, and what a call leaves. Assumes nothing.
-use Rattle.std.specs.Prelude.{ℕ, ◌+◌, ◌*◌, ◌^◌, ◌<◌, ◌≤◌, ◌≡◌, Bool, not, ltb, length, get_or, take, replicate}
+use Rattle.std.specs.Prelude.{ℕ, ◌^◌, ◌<◌, ◌≤◌, ◌≡◌, Bool, not, length, get_or, take, replicate}
 use Rattle.std.proofs.Math.Path.{refl, sym, ap, subst}
 use Rattle.std.proofs.Common.{◌∙◌, arith, take-take, lt-ltb, le-ltb, eq-eqb, ne_eqb, eqb-true}
 use Rattle.std.proofs.Math.Bool.{true, false, cond}
-use mathlib.Core.List.{List, [], ◌∷◌}
+use mathlib.Core.List.{List}
 use Rattle.std.proofs.Math.Dec.{eqb}
 use Rattle.std.proofs.lemmas.Bool.{not-true, not-false}
 use Rattle.kit.specs.Claims.{Ruling, pass, fail}
 use Rattle.kit.specs.Bools.{not_so}
 use Rattle.classfiles.specs.Limits.{scratch_size, unnamed}
-use Rattle.reader.specs.Verdicts.{fault, Refusal, in_method, in_bundle, numbers}
+use Rattle.reader.specs.Verdicts.{fault, Refusal, in_method, numbers}
 use Rattle.classfiles.specs.Bundle.{ClassFile}
 use Rattle.reader.specs.Link.{Read, refused, program, or_refused, read_bundle}
 use Rattle.classfiles.specs.Blocks.{classes_in}
 use Rattle.reader.specs.Linked.{parents_at, files_in}
-use Rattle.reader.specs.Program.{Program, program_of}
+use Rattle.reader.specs.Program.{program_of}
 use Rattle.reader.specs.Prints.{Printed}
 use Rattle.reader.specs.FaultNumbers.{LowRead, read_low}
 use Rattle.reader.specs.Whole.{IsReading, Tables}

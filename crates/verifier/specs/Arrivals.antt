@@ -9,7 +9,7 @@ use Rattle.kit.specs.Bools.{true-T}
 use Rattle.kit.specs.Claims.{Claim, pass, is, verdict, is_zero, all_pass, AllT}
 use Rattle.reader.specs.BuiltIns.{first_class}
 use Rattle.reader.specs.Program.{Program, Method}
-use Rattle.rules.specs.Types.{Ty, fits}
+use Rattle.rules.specs.Types.{Ty}
 use Rattle.rules.specs.States.{State, state, slots_fit, state_fits}
 use Rattle.rules.specs.Frames.{Frame}
 use Rattle.rules.specs.Opcodes.{instruction}

@@ -1,19 +1,18 @@
 -- Some words of a scratch change and all other bytes stay: what that leaves of the method's site, marks and types. Assumes nothing.
-use Rattle.std.specs.Prelude.{ℕ, zero, suc, ◌+◌, ◌-◌, ◌*◌, ◌/◌, ◌^◌, ◌<◌, ◌≤◌, ◌≡◌, refl, ◌⊎◌, min, length, get_or, take}
+use Rattle.std.specs.Prelude.{ℕ, zero, suc, ◌+◌, ◌-◌, ◌*◌, ◌/◌, ◌^◌, ◌<◌, ◌≤◌, ◌≡◌, refl, ◌⊎◌, min, length, get_or}
 use Rattle.std.proofs.Common.{sym, ◌∙◌, arith, add-one, length-take, get_or-take, ext_get_or}
 use Rattle.std.proofs.Math.Path.{ap, subst}
 use mathlib.Core.List.{List, [], ◌∷◌, ◌++◌}
 use Rattle.std.proofs.Math.Logic.{inl, inr}
 use Rattle.kit.specs.Pick.{side}
 use Rattle.kit.specs.Words.{word, put_word, word_by, word_out, word_same, word_other, byte_other, length_put}
-use Rattle.texts.specs.Reading.{Res}
 use Rattle.rules.specs.Types.{Ty}
 use Rattle.rules.specs.TypeWords.{type_of}
 use Rattle.rules.specs.Slots.{slot, locals_at}
 use Rattle.rules.specs.SlotLaws.{locals_same}
 use Rattle.rules.specs.Lines.{Line, lines}
 use Rattle.rules.specs.Frames.{info_at}
-use Rattle.rules.specs.Sites.{front, program_at, method_at, Here}
+use Rattle.rules.specs.Sites.{front, program_at, method_at}
 use Rattle.shaping.specs.Marks.{mark_at, lines_at, Marked, Ready}
 use Rattle.shaping.specs.ScanLaws.{here_front, init-front, lines-front}
 use Rattle.verifier.specs.FrameReading.{type_at, Readable}

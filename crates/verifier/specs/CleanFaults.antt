@@ -3,13 +3,13 @@ use Prim.Native.Nat.{ℕ, zero, suc, ◌+◌}
 use Rattle.std.specs.Prelude.{◌≡◌, Bool, true, false, cond, eqb, ltb, leb, get_or}
 use Rattle.std.proofs.Math.Path.{refl, ap}
 use Rattle.std.proofs.Common.{sym, ◌∙◌, arith}
-use mathlib.Core.List.{List, [], ◌∷◌, ◌++◌}
+use mathlib.Core.List.{List, [], ◌∷◌}
 use Rattle.std.proofs.Math.ListN.{length}
 use Rattle.texts.specs.Reading.{Res, ok, bad, and_then, pre, many, num2_at, u2_at}
 use Rattle.reader.specs.Program.{class, is_constructor}
 use Rattle.rules.specs.Resolve.{Resolved, nothing, number, type, field, method_of, resolve}
 use Rattle.rules.specs.Lines.{is_new_at}
-use Rattle.rules.specs.Types.{at, self, Ty, top, int, null, ini, uninit}
+use Rattle.rules.specs.Types.{at, self, top, int, null, uninit}
 use Rattle.rules.specs.Frames.{number_at, class_ty, tagged_at, info_at}
 use Rattle.rules.specs.Sites.{front, program_at, method_at}
 use Rattle.shaping.specs.Marks.{lines_at}

@@ -1,5 +1,5 @@
 -- The opcode table's counts are the rules': shown once over all rows.
-use Rattle.std.specs.Prelude.{ℕ, ◌+◌, ◌-◌, ◌%◌, ◌^◌, ◌≤◌, ◌≡◌, refl, Bool, true, false, cond, List, [], ◌∷◌, length, drop, ltb, eqb}
+use Rattle.std.specs.Prelude.{ℕ, ◌+◌, ◌%◌, ◌^◌, ◌≤◌, ◌≡◌, refl, Bool, true, false, cond, List, [], ◌∷◌, length, drop, ltb, eqb}
 use Rattle.std.proofs.Common.{arith, length-drop}
 use Rattle.kit.specs.Bools.{not_so}
 use Rattle.classfiles.specs.Limits.{max_dimensions}

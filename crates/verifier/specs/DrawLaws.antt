@@ -1,7 +1,7 @@
 -- Laws of frames as they are read: each form within the method's limits. Assumes nothing.
-use Rattle.std.specs.Prelude.{ℕ, zero, suc, ◌+◌, ◌-◌, ◌*◌, ◌/◌, ◌^◌, ◌<◌, ◌≤◌, ◌≡◌, Bool, not, ◌⊎◌, leb, length}
+use Rattle.std.specs.Prelude.{ℕ, zero, suc, ◌+◌, ◌-◌, ◌^◌, ◌<◌, ◌≤◌, ◌≡◌, Bool, not, leb, length}
 use Rattle.std.proofs.Math.Path.{refl, sym, ap}
-use Rattle.std.proofs.Common.{subst, ◌∙◌, inl, inr, add-one, zero-add, add-zero, length-append}
+use Rattle.std.proofs.Common.{◌∙◌, inl, zero-add, length-append}
 use Rattle.std.proofs.Math.Bool.{true, false, cond}
 use mathlib.Core.List.{List, [], ◌∷◌, ◌++◌}
 use native.Mathlib.Omega.{arith}
@@ -17,14 +17,12 @@ use Rattle.rules.specs.Types.{Ty}
 use Rattle.rules.specs.TypeWords.{type_of}
 use Rattle.rules.specs.Slots.{slot, locals_at}
 use Rattle.rules.specs.SlotLaws.{length_locals}
-use Rattle.rules.specs.Frames.{Written, written, one_on_stack, appended, chopped, info_at}
-use Rattle.rules.specs.Sites.{Here, front, program_at, method_at}
-use Rattle.shaping.specs.Marks.{Ready, lines_at}
+use Rattle.rules.specs.Frames.{Written, written, one_on_stack, appended, chopped}
 use Rattle.verifier.specs.FrameReading.{type_at}
 use Rattle.verifier.specs.FrameTypes.{Types}
-use Rattle.verifier.specs.Besides.{Besides, besides_none, besides_put, besides_wide, besides_locals, locals_more}
+use Rattle.verifier.specs.Besides.{Besides, besides_none, besides_put, besides_wide, besides_locals}
 use Rattle.verifier.specs.CleanFaults.{clean, clean-then, clean-many, clean-type, many-length}
-use Rattle.verifier.specs.Drawing.{drawing, list_in, stack_in, drawn_as, sized, one_by, append_by, chop_by, Drew}
+use Rattle.verifier.specs.Drawing.{drawing, list_in, stack_in, sized, one_by, append_by, chop_by, Drew}
 use Rattle.rules.specs.declared.site.Site.{Site}
 use Rattle.verifier.specs.declared.frame_reader.Drawn.{Drawn}
 

@@ -1,11 +1,9 @@
 -- A frame as the code reads it: its locals stand in the words from 65,184 on, its operands in those from 65,216 on.
-use Rattle.std.specs.Prelude.{ℕ, ◌+◌, ◌-◌, ◌≤◌, ◌≡◌, true, cond, List, [], ◌∷◌, ◌++◌, length, take, leb}
-use Rattle.texts.specs.Reading.{Res, ok, bad, and_then, many}
-use Rattle.reader.specs.Program.{Program, Method}
-use Rattle.rules.specs.Opcodes.{body}
+use Rattle.std.specs.Prelude.{ℕ, ◌≤◌, ◌≡◌, true, cond, List, length, leb}
+use Rattle.texts.specs.Reading.{Res, ok, bad, and_then}
 use Rattle.rules.specs.Types.{Ty}
 use Rattle.rules.specs.Slots.{locals_at}
-use Rattle.rules.specs.Frames.{Written, written, one_on_stack, appended, chopped, full_at, long_form, form_at}
+use Rattle.rules.specs.Frames.{Written, written, one_on_stack, appended, chopped, full_at}
 use Rattle.rules.specs.Sites.{front, program_at, method_at}
 use Rattle.shaping.specs.Marks.{lines_at}
 use Rattle.verifier.specs.Besides.{Besides}

@@ -1,26 +1,26 @@
 -- Laws of reading the frame table: a type by its tag. Assumes nothing.
-use Rattle.std.specs.Prelude.{ℕ, zero, suc, ◌+◌, ◌-◌, ◌*◌, ◌/◌, ◌%◌, ◌<◌, ◌≤◌, ◌≡◌, refl, Bool, true, cond, not, List, [], ◌∷◌, ◌⊎◌, eqb, ltb, leb, length, get_or}
+use Rattle.std.specs.Prelude.{ℕ, ◌+◌, ◌-◌, ◌/◌, ◌%◌, ◌<◌, ◌≤◌, ◌≡◌, refl, Bool, true, cond, List, ◌⊎◌, eqb, leb, length, get_or}
 use Rattle.std.proofs.Math.Path.{sym}
-use Rattle.std.proofs.Common.{ap, subst, ◌∙◌, inl, inr, arith, eq-eqb, ne_eqb, lt-ltb, le-ltb}
+use Rattle.std.proofs.Common.{ap, ◌∙◌, inl, inr, arith, ne_eqb, lt-ltb, le-ltb}
 use Rattle.std.proofs.Math.Bool.{false}
 use Rattle.kit.specs.Bools.{not_so}
 use Rattle.kit.specs.Pick.{side}
 use Rattle.texts.specs.Reading.{Res, ok, bad, and_then, num2_at, u2_at, u4_at}
-use Rattle.texts.specs.Answers.{res, res_as, is_ok_lem}
+use Rattle.texts.specs.Answers.{res, is_ok_lem}
 use Rattle.classfiles.specs.Descriptors.{Ref}
-use Rattle.reader.specs.Program.{Program, Method, class, is_constructor}
+use Rattle.reader.specs.Program.{Program, Method, class}
 use Rattle.texts.specs.declared.items.Got.{Got}
-use Rattle.rules.specs.Resolve.{Resolved, by, nothing, number, type, field, method_of, resolve}
+use Rattle.rules.specs.Resolve.{Resolved, by, nothing, number, field, method_of, resolve}
 use Rattle.rules.specs.Lines.{Line, is_new_at}
 use Rattle.rules.specs.Types.{at, self, Ty, top, int, null, ini, uninit}
 use Rattle.rules.specs.TypeWords.{type_of}
 use Rattle.rules.specs.TypeCodes.{code_ref}
-use Rattle.rules.specs.ResolvedWords.{field_in, method_in, resolved_as, resolved_of, resolved_in, word_of}
+use Rattle.rules.specs.ResolvedWords.{field_in, method_in, resolved_as, resolved_of, word_of}
 use Rattle.rules.specs.DecodeLaws.{is_type}
 use Rattle.rules.specs.Frames.{number_at, class_ty, tagged_at, info_at}
-use Rattle.rules.specs.Sites.{front, Sited, program_at, method_at, Here}
+use Rattle.rules.specs.Sites.{front, program_at, method_at}
 use Rattle.shaping.specs.SiteLaws.{word-front}
-use Rattle.shaping.specs.Marks.{lines_at, Marked}
+use Rattle.shaping.specs.Marks.{lines_at}
 use Rattle.shaping.specs.MarkLaws.{new_past}
 use Rattle.verifier.specs.FrameReading.{ok_type, wrong_type, type_named, type_classed, type_made, type_tagged, type_at, Readable}
 use Rattle.rules.specs.declared.site.Site.{Site}

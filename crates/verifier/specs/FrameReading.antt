@@ -1,5 +1,5 @@
 -- The frame table's parts at a method's site, as the code reads them.
-use Rattle.std.specs.Prelude.{ℕ, zero, suc, ◌+◌, ◌*◌, ◌<◌, ◌≤◌, ◌≡◌, cond, List, length}
+use Rattle.std.specs.Prelude.{ℕ, cond, List}
 use Rattle.texts.specs.Reading.{Res, ok, bad, and_then}
 use Rattle.reader.specs.Program.{class}
 use Rattle.rules.specs.Resolve.{resolve}

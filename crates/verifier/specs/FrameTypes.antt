@@ -1,10 +1,10 @@
 -- A row of types read into words, as the loop goes. Assumes nothing.
-use Rattle.std.specs.Prelude.{ℕ, ◌+◌, ◌-◌, ◌*◌, ◌/◌, ◌^◌, ◌<◌, ◌≤◌, ◌≡◌, refl, Bool, true, false, not, List, [], ◌∷◌, ◌++◌, ◌⊎◌, length}
-use Rattle.std.proofs.Common.{sym, ◌∙◌, inl, inr}
+use Rattle.std.specs.Prelude.{ℕ, ◌+◌, ◌-◌, ◌^◌, ◌<◌, ◌≤◌, ◌≡◌, true, false, not, List, length}
+use Rattle.std.proofs.Common.{sym, ◌∙◌, inr}
 use Rattle.std.proofs.Math.Path.{ap}
 use native.Mathlib.Omega.{arith}
 use Rattle.kit.specs.Words.{put_word}
-use Rattle.texts.specs.Reading.{Res, ok, bad, pre, many}
+use Rattle.texts.specs.Reading.{ok, pre, many}
 use Rattle.texts.specs.Answers.{res_as}
 use Rattle.classfiles.specs.Loops.{pre_nil, many_done, many_stop, many_next}
 use Rattle.texts.specs.declared.items.Got.{Got}

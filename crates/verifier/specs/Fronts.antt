@@ -1,18 +1,16 @@
 -- A site of the whole scratch is one of its front. Assumes nothing.
-use Rattle.std.specs.Prelude.{ℕ, ◌+◌, ◌*◌, ◌%◌, ◌<◌, ◌≤◌, ◌≡◌, refl, cond, List, [], ◌∷◌, ltb, length, take}
+use Rattle.std.specs.Prelude.{ℕ, ◌+◌, ◌*◌, ◌%◌, ◌<◌, ◌≤◌, ◌≡◌, List}
 use Rattle.std.proofs.Common.{sym, subst, ◌∙◌, arith, get_or-take, take-take}
 use Rattle.std.proofs.Math.Path.{ap}
 use Rattle.std.proofs.Math.ListN.{get_or}
-use Rattle.kit.specs.Words.{word, word-take}
+use Rattle.kit.specs.Words.{word-take}
 use Rattle.reader.specs.BuiltIns.{first_class}
-use Rattle.classfiles.specs.Descriptors.{Desc}
 use Rattle.classfiles.specs.Blocks.{listed, classes_in}
 use Rattle.classfiles.specs.BlockWords.{listed_same}
 use Rattle.reader.specs.Linked.{parents_at}
 use Rattle.reader.specs.TypeCodes.{types_of, desc_of, codes_in, result_at, params_in, results_in}
-use Rattle.reader.specs.Program.{Program, Method, method, class, program_of}
-use Rattle.rules.specs.Ancestry.{Parents}
-use Rattle.rules.specs.ResolvedWords.{word_of, resolved_of, Flagged}
+use Rattle.reader.specs.Program.{Program, Method, method, program_of}
+use Rattle.rules.specs.ResolvedWords.{resolved_of, Flagged}
 use Rattle.rules.specs.Sites.{front, Sited, Bounded, program_at, method_at, Here}
 use Rattle.shaping.specs.SiteLaws.{word-front}
 use Rattle.rules.specs.declared.site.Site.{Site}

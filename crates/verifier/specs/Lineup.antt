@@ -15,7 +15,7 @@ use Rattle.classfiles.specs.Attributes.{handlers_from}
 use Rattle.reader.specs.TypeCodes.{params_in, results_in, result_at}
 use Rattle.reader.specs.Program.{Program, Method}
 use Rattle.rules.specs.Instruction.{Instr, falls}
-use Rattle.rules.specs.Opcodes.{body, instruction}
+use Rattle.rules.specs.Opcodes.{instruction}
 use Rattle.rules.specs.States.{State}
 use Rattle.rules.specs.Frames.{Frame}
 use Rattle.rules.specs.Rule.{rule}

@@ -2,7 +2,6 @@
 use Rattle.std.specs.Prelude.{◌+◌, ◌*◌, ◌/◌, ◌≤◌, ◌≡◌, List, ℕ, length, take}
 use Rattle.std.proofs.Common.{sym, ap, ◌∙◌, arith}
 use Rattle.kit.specs.Claims.{verdict}
-use Rattle.reader.specs.BuiltIns.{first_class}
 use Rattle.reader.specs.Program.{Program, Method, is_constructor}
 use Rattle.rules.specs.States.{parameter_tys}
 use Rattle.rules.specs.Frames.{Frame}

@@ -1,5 +1,5 @@
 -- Instructions by their opcodes, where nothing is refused: what the answer says of a line of the walk. Assumes nothing.
-use Rattle.std.specs.Prelude.{ℕ, suc, ◌+◌, ◌-◌, ◌*◌, ◌^◌, ◌%◌, ◌<◌, ◌≤◌, ◌≡◌, Bool, true, false, cond, ltb, leb, T, get_or, drop}
+use Rattle.std.specs.Prelude.{ℕ, suc, ◌+◌, ◌-◌, ◌*◌, ◌^◌, ◌%◌, ◌<◌, ◌≤◌, ◌≡◌, Bool, true, false, cond, ltb, leb, get_or, drop}
 use Rattle.std.proofs.Math.Path.{refl, sym, ap}
 use Rattle.std.proofs.Common.{subst, ◌∙◌, arith}
 use mathlib.Core.List.{List, [], ◌∷◌}
@@ -16,7 +16,7 @@ use Rattle.rules.specs.Instruction.{Instr, falls, targets}
 use Rattle.rules.specs.Opcodes.{instruction}
 use Rattle.rules.specs.Resolve.{Resolved}
 use Rattle.rules.specs.Types.{Ty, top, int, null, is_int, is_reference, fits}
-use Rattle.rules.specs.States.{State, state, stack, operand}
+use Rattle.rules.specs.States.{State, state, operand}
 use Rattle.rules.specs.Frames.{Frame}
 use Rattle.rules.specs.Rule.{rule, key_of}
 use Rattle.rules.specs.Walk.{frame_at, into_frame, operands_fit, branch_claims, instruction_claims}

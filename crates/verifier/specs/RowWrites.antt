@@ -14,7 +14,6 @@ use Rattle.rules.specs.States.{State, state, no_copy, padded}
 use Rattle.rules.specs.TypeWords.{type_of}
 use Rattle.rules.specs.Slots.{slot, locals_at, stack_at, held}
 use Rattle.rules.specs.SlotLaws.{slot_is, length_locals}
-use Rattle.rules.specs.Frames.{frame}
 use Rattle.rules.specs.FrameRows.{row_held}
 use Rattle.verifier.specs.Besides.{Besides, besides_none, besides_put, besides_then, besides_wide, besides_word, besides_locals, locals_more}
 use Rattle.verifier.specs.Drawing.{list_in, stack_in}

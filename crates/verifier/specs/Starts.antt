@@ -1,6 +1,6 @@
 -- A method's start in words: receiver, parameters, top in every local past them. Assumes nothing.
 use Prim.Native.Nat.{ℕ, zero, suc, ◌+◌, ◌-◌, ◌*◌, ◌^◌, ◌/◌, ◌<◌, ◌≤◌}
-use Rattle.std.specs.Prelude.{◌≡◌, refl, Bool, true, false, cond, List, [], ◌∷◌, ◌++◌, ◌⊎◌, length, take, replicate}
+use Rattle.std.specs.Prelude.{◌≡◌, refl, true, false, cond, List, [], ◌∷◌, ◌++◌, ◌⊎◌, length, take}
 use Rattle.std.proofs.Math.Path.{sym}
 use Rattle.std.proofs.Common.{ap, ◌∙◌, inl, inr}
 use native.Mathlib.Omega.{arith}
@@ -15,7 +15,7 @@ use Rattle.classfiles.specs.Members.{Body}
 use Rattle.reader.specs.Program.{Program, Method, is_constructor}
 use Rattle.rules.specs.Opcodes.{body}
 use Rattle.rules.specs.Types.{self, Ty, top, ini, uninit, ty_of, tys_of}
-use Rattle.rules.specs.States.{state, padded, receiver_tys, parameter_tys, start_state}
+use Rattle.rules.specs.States.{padded, parameter_tys, start_state}
 use Rattle.rules.specs.TypeWords.{type_of}
 use Rattle.rules.specs.Slots.{slot, locals_at, stack_at, held}
 use Rattle.rules.specs.SlotLaws.{slot_is, take_less}

@@ -1,6 +1,6 @@
 -- What phases A and B leave are the types of the program's methods, of those of the built-in classes too, which have none. Assumes nothing.
 use Prim.Native.Nat.{ℕ, zero, suc, ◌+◌, ◌-◌, ◌*◌, ◌<◌, ◌≤◌}
-use Rattle.std.specs.Prelude.{◌≡◌, refl, List, [], ◌∷◌, ◌⊎◌, length, get_or, take, drop}
+use Rattle.std.specs.Prelude.{◌≡◌, refl, List, [], ◌∷◌, ◌⊎◌, get_or, take, drop}
 use Rattle.std.proofs.Math.Path.{sym, ap}
 use Rattle.std.proofs.Common.{◌∙◌, inl, inr, lt-ltb}
 use Rattle.std.proofs.Math.Bool.{true}
@@ -9,15 +9,13 @@ use Rattle.std.proofs.Math.ListN.{get_or-eq_default}
 use Rattle.kit.specs.Pick.{side}
 use Rattle.kit.specs.Words.{word, word-part}
 use Rattle.reader.specs.BuiltIns.{first_class, built_ins}
-use Rattle.classfiles.specs.Descriptors.{Desc}
-use Rattle.reader.specs.Program.{Program, Class, Method, no_method, built_in_method, built_ins_from, program_of, class, method}
+use Rattle.reader.specs.Program.{Program, Method, no_method, built_in_method, built_ins_from, program_of, class, method}
 use Rattle.reader.specs.MemberRows.{block_at, row_count, count_word}
 use Rattle.reader.specs.MemberAt.{methods-count}
 use Rattle.reader.specs.MemberPass.{program_in}
 use Rattle.reader.specs.Lookup.{class_past}
 use Rattle.reader.specs.Linked.{files_in}
 use Rattle.reader.specs.Access.{Limited}
-use Rattle.reader.specs.TypeCodes.{params_in, results_in}
 use Rattle.reader.specs.Whole.{MethodTypes}
 use Rattle.verifier.specs.Callees.{methods_in, entry_of, params_of, back_of, Typed, entry_built_in, entry_past, entry_far, entry_none, entry_is, params_none, params_some, back_past}
 

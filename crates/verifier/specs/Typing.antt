@@ -4,9 +4,9 @@ use Rattle.std.proofs.Math.Path.{sym, ap, subst}
 use Rattle.std.proofs.Common.{◌∙◌, arith, ne_eqb}
 use mathlib.Core.List.{List}
 use Rattle.std.proofs.Math.Seq.{take-take}
-use Rattle.kit.specs.Claims.{Ruling, pass, fail, verdict}
-use Rattle.reader.specs.Verdicts.{Fault, fault}
-use Rattle.texts.specs.Reading.{Res, ok, bad}
+use Rattle.kit.specs.Claims.{Ruling, pass}
+use Rattle.reader.specs.Verdicts.{Fault}
+use Rattle.texts.specs.Reading.{ok, bad}
 use Rattle.classfiles.specs.Bundle.{ClassFile}
 use Rattle.reader.specs.BuiltIns.{first_class}
 use Rattle.reader.specs.TypeCodes.{params_in}
@@ -14,12 +14,10 @@ use Rattle.classfiles.specs.Blocks.{classes_in}
 use Rattle.reader.specs.Linked.{parents_at, files_in}
 use Rattle.reader.specs.MemberRows.{block_at, row_count}
 use Rattle.reader.specs.Program.{Program, Method, method, program_of}
-use Rattle.rules.specs.Frames.{Frame, frames}
-use Rattle.rules.specs.Walk.{walk_claims}
+use Rattle.rules.specs.Frames.{frames}
 use Rattle.shaping.specs.Verify.{over_classes, bundle_classes, walked}
 use Rattle.rules.specs.FrameRows.{frames_of}
 use Rattle.rules.specs.Sites.{front, program_at, method_at, Here}
-use Rattle.shaping.specs.Marks.{ruled_as}
 use Rattle.shaping.specs.Resolving.{block_same}
 use Rattle.shaping.specs.Located.{Prepared}
 use Rattle.shaping.specs.Kept.{few, prepared_kept}

@@ -1,19 +1,17 @@
 -- The walk of a method of the program that the scratch stands for. Assumes nothing.
-use Rattle.std.specs.Prelude.{ℕ, ◌+◌, ◌*◌, ◌%◌, ◌<◌, ◌≤◌, ◌≡◌, List, take}
+use Rattle.std.specs.Prelude.{ℕ, ◌+◌, ◌*◌, ◌%◌, ◌<◌, ◌≤◌, ◌≡◌, List}
 use Rattle.std.proofs.Common.{sym, subst, ◌∙◌, arith, get_or-take}
 use Rattle.std.proofs.Math.Path.{ap}
 use Rattle.std.proofs.Math.ListN.{length, get_or}
-use Rattle.kit.specs.Words.{word, word-take}
+use Rattle.kit.specs.Words.{word-take}
 use Rattle.kit.specs.Claims.{verdict}
 use Rattle.classfiles.specs.BlockWords.{listed_same, length-listed}
-use Rattle.reader.specs.BuiltIns.{first_class}
-use Rattle.reader.specs.TypeCodes.{types_of, codes_in, params_in, results_in, result_at, desc_of as code_desc}
+use Rattle.reader.specs.TypeCodes.{codes_in, params_in, results_in, result_at, desc_of as code_desc}
 use Rattle.reader.specs.Program.{Program, Method}
 use Rattle.rules.specs.States.{parameter_tys}
 use Rattle.rules.specs.Walk.{walk_claims}
-use Rattle.rules.specs.Ancestry.{Parents}
 use Rattle.rules.specs.FrameRows.{frames_of}
-use Rattle.rules.specs.ResolvedWords.{word_of, resolved_of, Flagged}
+use Rattle.rules.specs.ResolvedWords.{resolved_of, Flagged}
 use Rattle.rules.specs.Sites.{front, Sited, Here, KnowsInit, program_at, method_at}
 use Rattle.shaping.specs.SiteLaws.{word-front}
 use Rattle.shaping.specs.Marks.{ruled_as}

@@ -1,6 +1,5 @@
 use Rattle.machine.specs.Filling.{filling_now, filling_readied, filling_printed, filling_then, table_start, table_end}
 use native.Mathlib.Omega.{arith}
-use Prim.Native.Nat.{◌-◌}
 use Rattle.machine.proofs.dispatch.fill_all.Goals as goal
 
 pub loop-c-init : goal.loop-c-init

@@ -1,7 +1,6 @@
 use Rattle.machine.specs.Filling.{front_long, filling_from, filling_then, puts_now, row_end}
 use native.Mathlib.Omega.{arith}
 use mathlib.Core.Path.{refl}
-use Prim.Native.Nat.{◌-◌}
 use Rattle.machine.proofs.dispatch.row.Goals as goal
 
 pub slice_bounds-member_count-count : goal.slice_bounds-member_count-count

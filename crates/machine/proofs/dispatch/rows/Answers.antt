@@ -1,7 +1,6 @@
 use Rattle.machine.specs.Filling.{filling_now, filling_readied, filling_printed, filling_then, filling_from, class_end}
 use native.Mathlib.Omega.{arith}
 use mathlib.Core.Path.{refl}
-use Prim.Native.Nat.{◌-◌}
 use Rattle.machine.proofs.dispatch.rows.Goals as goal
 
 pub loop-o-init : goal.loop-o-init

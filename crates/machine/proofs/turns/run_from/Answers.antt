@@ -1,7 +1,5 @@
 use mathlib.Core.Path.{refl, ◌∙◌}
-use mathlib.Core.Logic.{⊎_elim}
 use native.Mathlib.Omega.{arith}
-use borrow.Author.Tests.{not-false}
 use Rattle.machine.specs.CallableLaws.{standing_callable}
 use Rattle.machine.specs.Turns.{going_start, going_next, runs_closed, runs_out, site_after, site_found, site_stays}
 use Rattle.machine.proofs.turns.run_from.Goals as goal

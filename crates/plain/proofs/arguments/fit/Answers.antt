@@ -1,4 +1,4 @@
-use Rattle.std.proofs.Common.{◌-◌, arith}
+use Rattle.std.proofs.Common.{arith}
 use Rattle.kit.specs.Pick.{calls}
 use Rattle.kit.specs.Scan.{alls}
 use Rattle.plain.proofs.arguments.fit.Goals as goal

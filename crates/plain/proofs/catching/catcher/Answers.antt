@@ -1,4 +1,4 @@
-use Rattle.std.proofs.Common.{◌-◌, refl, arith}
+use Rattle.std.proofs.Common.{refl, arith}
 use Rattle.plain.specs.Catching.{search_none, search_hit, search_next}
 use Rattle.plain.proofs.catching.catcher.Goals as goal
 

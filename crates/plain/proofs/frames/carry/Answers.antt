@@ -1,4 +1,4 @@
-use Rattle.std.proofs.Common.{◌-◌, refl, subst, arith}
+use Rattle.std.proofs.Common.{refl, subst, arith}
 use Rattle.plain.specs.NextWindow.{Carried, carry_none, carry_more}
 use Rattle.plain.proofs.frames.carry.Goals as goal
 

@@ -1,4 +1,4 @@
-use Rattle.std.proofs.Common.{◌-◌, subst, arith}
+use Rattle.std.proofs.Common.{subst, arith}
 use Rattle.plain.specs.NextWindow.{Wiped, wipe_none, wipe_more}
 use Rattle.plain.proofs.frames.wipe.Goals as goal
 

@@ -1,4 +1,4 @@
-use Rattle.std.proofs.Common.{◌-◌, refl, ap, ◌∙◌, arith, length-set}
+use Rattle.std.proofs.Common.{refl, ap, ◌∙◌, arith, length-set}
 use Rattle.plain.specs.HeapLaws.{cleared, clear_none, clear_more}
 use Rattle.plain.proofs.heap.clear.Goals as goal
 

@@ -1,6 +1,5 @@
 use Rattle.rules.specs.Loads.{copied_none, copied_more}
 use mathlib.Core.Path.{◌≡◌, refl, ◌∙◌}
-use Prim.Native.Nat.{◌-◌}
 use native.Mathlib.Omega.{arith}
 use Rattle.rules.proofs.frames.copy.Goals as goal
 

@@ -1,7 +1,6 @@
 use Rattle.rules.specs.FrameLaws.{half_start, half_hit, half_up, half_down, half_end, among-row}
 use native.Mathlib.Omega.{arith}
 use borrow.Author.Rules.{rules}
-use Prim.Native.Nat.{◌-◌}
 use Rattle.rules.proofs.frames.find.Goals as goal
 
 pub loop-low-init : goal.loop-low-init

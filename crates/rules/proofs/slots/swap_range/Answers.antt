@@ -1,6 +1,6 @@
 use Rattle.rules.specs.Slots.{swap1}
 use mathlib.Core.Path.{◌≡◌, refl, ap, ◌∙◌}
-use Prim.Native.Nat.{ℕ, ◌-◌}
+use Prim.Native.Nat.{ℕ}
 use Rattle.rules.specs.SlotLaws.{swapped_none, swapped_more}
 use Rattle.rules.specs.Rule.{key_of}
 use Rattle.rules.specs.TypeWords.{type_of}

@@ -2,7 +2,6 @@ use Rattle.running.specs.Entry.{ints_next, ints_stop, ints_end}
 use Rattle.plain.specs.Run.{all_ints}
 use Rattle.reader.specs.TypeCodes.{params_in}
 use mathlib.Core.Path.{refl}
-use Prim.Native.Nat.{◌-◌}
 use native.Mathlib.Omega.{arith}
 use Rattle.running.proofs.entry.all_ints.Goals as goal
 

@@ -1,6 +1,6 @@
 use Rattle.running.specs.Entry.{Emptied, emptied_none, emptied_more}
 use mathlib.Core.Path.{◌≡◌, refl, subst, ◌∙◌}
-use Prim.Native.Nat.{ℕ, ◌-◌}
+use Prim.Native.Nat.{ℕ}
 use lib.ListN.{length-set}
 use native.Mathlib.Omega.{arith}
 use Rattle.running.proofs.entry.empty_from.Goals as goal

@@ -1,6 +1,6 @@
 use Rattle.running.specs.Entry.{Laid, laid_none, laid_more}
 use mathlib.Core.Path.{◌≡◌, refl, subst, ◌∙◌}
-use Prim.Native.Nat.{ℕ, ◌-◌}
+use Prim.Native.Nat.{ℕ}
 use lib.ListN.{length, length-set}
 use native.Mathlib.Omega.{arith}
 use Rattle.running.proofs.entry.lay.Goals as goal

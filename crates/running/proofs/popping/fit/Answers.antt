@@ -1,7 +1,6 @@
 use Rattle.kit.specs.Scan.{alls}
 use Rattle.kit.specs.Pick.{calls}
 use native.Mathlib.Omega.{arith}
-use Prim.Native.Nat.{◌-◌}
 use Rattle.running.proofs.popping.fit.Goals as goal
 
 pub loop-i-init : goal.loop-i-init

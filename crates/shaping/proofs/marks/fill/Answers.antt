@@ -1,4 +1,3 @@
-use Prim.Native.Nat.{◌-◌}
 use native.Mathlib.Omega.{arith}
 use Rattle.texts.specs.Reading.{part}
 use Rattle.shaping.specs.ScanLaws.{scan_less}

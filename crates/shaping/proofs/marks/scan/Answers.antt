@@ -1,4 +1,3 @@
-use Prim.Native.Nat.{◌-◌}
 use Rattle.texts.specs.Reading.{part}
 use Rattle.shaping.specs.ScanLaws.{scan_start, scan_end, scan_unlisted, scan_cut, scan_bad, scan_turn, scan_less, scan_room}
 use Rattle.shaping.proofs.marks.scan.Goals as goal

@@ -1,6 +1,5 @@
 use Rattle.shaping.specs.Phases.{shape_by, readied_kept, classes_start, classes_next, classes_stop, classes_end}
 use mathlib.Core.Path.{refl, ◌∙◌}
-use Prim.Native.Nat.{◌-◌}
 use native.Mathlib.Omega.{arith}
 use Rattle.shaping.proofs.phases.shape_all.Goals as goal
 

@@ -1,6 +1,5 @@
 use Rattle.shaping.specs.Phases.{shape_by, readied_kept, method-count, row_there, methods_start, methods_next, methods_stop, methods_end}
 use mathlib.Core.Path.{refl, ◌∙◌}
-use Prim.Native.Nat.{◌-◌}
 use native.Mathlib.Omega.{arith}
 use Rattle.shaping.proofs.phases.shape_class.Goals as goal
 

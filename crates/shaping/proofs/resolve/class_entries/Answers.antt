@@ -1,6 +1,6 @@
 use Rattle.shaping.specs.Resolving.{around_same, around_both, tables_same, word_below, count_most, filled_first, filled_past}
 use native.Mathlib.Omega.{arith}
-use Prim.Native.Nat.{◌+◌, ◌-◌, ◌*◌}
+use Prim.Native.Nat.{◌+◌, ◌*◌}
 use mathlib.Core.Path.{refl, sym, ◌∙◌}
 use Rattle.shaping.proofs.resolve.class_entries.Goals as goal
 

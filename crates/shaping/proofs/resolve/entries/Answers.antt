@@ -1,7 +1,7 @@
 use Rattle.shaping.specs.Resolving.{Filled, around_same, around_both, tables_same}
 use mathlib.Core.Path.{◌≡◌, subst}
 use native.Mathlib.Omega.{arith}
-use Prim.Native.Nat.{ℕ, ◌-◌, ◌*◌}
+use Prim.Native.Nat.{ℕ, ◌*◌}
 use Rattle.shaping.proofs.resolve.entries.Goals as goal
 
 pub loop-c-init : goal.loop-c-init

@@ -1,4 +1,3 @@
-use Prim.Native.Nat.{◌-◌}
 use Rattle.texts.specs.Reading.{part}
 use Rattle.shaping.specs.ShapeLaws.{refer_start, refer_done, refer_no, refer_stop, refer_turn}
 use Rattle.shaping.specs.ScanLaws.{scan_less}

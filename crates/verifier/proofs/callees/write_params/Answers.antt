@@ -1,6 +1,5 @@
 use Rattle.verifier.specs.Callees.{beside_none, beside_put, listed_none, listed_put, count_beside, type_beside}
 use mathlib.Core.Path.{◌≡◌, refl, ◌∙◌}
-use Prim.Native.Nat.{◌-◌}
 use native.Mathlib.Omega.{arith}
 use Rattle.verifier.proofs.callees.write_params.Goals as goal
 

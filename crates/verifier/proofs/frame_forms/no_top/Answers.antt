@@ -1,4 +1,3 @@
-use Prim.Native.Nat.{◌-◌}
 use Rattle.verifier.specs.JudgingLaws.{topless_start, topless_end, topless_stop, topless_next}
 use Rattle.verifier.proofs.frame_forms.no_top.Goals as goal
 

@@ -1,4 +1,3 @@
-use Prim.Native.Nat.{◌-◌}
 use Rattle.verifier.specs.FrameTypes.{types_start, types_ready, types-end, types_stop, types_next}
 use Rattle.verifier.proofs.frame_reader.types.Goals as goal
 

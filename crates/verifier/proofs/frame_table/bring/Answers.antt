@@ -1,6 +1,5 @@
 use native.Mathlib.Omega.{arith}
 use mathlib.Core.Path.{◌≡◌, refl, ◌∙◌}
-use Prim.Native.Nat.{◌-◌}
 use Rattle.verifier.specs.RowWrites.{brought_none, brought_more}
 use Rattle.verifier.proofs.frame_table.bring.Goals as goal
 

@@ -1,5 +1,4 @@
 use native.Mathlib.Omega.{arith}
-use Prim.Native.Nat.{◌-◌}
 use Rattle.verifier.specs.RowWrites.{self_start, self_end, self_hit, self_more}
 use Rattle.verifier.proofs.frame_table.no_self.Goals as goal
 

@@ -1,6 +1,5 @@
 use native.Mathlib.Omega.{arith}
 use mathlib.Core.Path.{◌∙◌}
-use Prim.Native.Nat.{◌-◌}
 use Rattle.verifier.specs.FrameTableLaws.{rows_start, rows_stop, row-asked, rows_next, rows_done, rows_left}
 use Rattle.verifier.proofs.frame_table.over_frames.Goals as goal
 

@@ -1,6 +1,5 @@
 use native.Mathlib.Omega.{arith}
 use mathlib.Core.Path.{◌≡◌, refl, ◌∙◌}
-use Prim.Native.Nat.{◌-◌}
 use Rattle.verifier.specs.RowWrites.{topped_none, topped_more}
 use Rattle.verifier.proofs.frame_table.pad.Goals as goal
 

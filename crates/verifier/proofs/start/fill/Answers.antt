@@ -1,6 +1,5 @@
 use Rattle.verifier.specs.Starts.{filled_none, filled_more}
 use mathlib.Core.Path.{◌≡◌, refl, ◌∙◌}
-use Prim.Native.Nat.{◌-◌}
 use native.Mathlib.Omega.{arith}
 use Rattle.verifier.proofs.start.fill.Goals as goal
 

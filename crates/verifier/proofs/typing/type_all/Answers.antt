@@ -1,7 +1,6 @@
 use Rattle.verifier.specs.Typing.{passes_kept}
 use Rattle.shaping.specs.Phases.{shape_by, typing_by, readied_kept, classes_start, classes_next, classes_stop, classes_end}
 use mathlib.Core.Path.{refl, ◌∙◌}
-use Prim.Native.Nat.{◌-◌}
 use native.Mathlib.Omega.{arith}
 use Rattle.verifier.proofs.typing.type_all.Goals as goal
 

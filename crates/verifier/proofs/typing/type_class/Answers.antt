@@ -2,7 +2,6 @@ use Rattle.shaping.specs.Passing.{judged_pass}
 use Rattle.verifier.specs.Typing.{passes_kept}
 use Rattle.shaping.specs.Phases.{shape_by, typing_by, readied_kept, method-count, row_there, methods_start, methods_next, methods_stop, methods_end}
 use mathlib.Core.Path.{refl, ◌∙◌}
-use Prim.Native.Nat.{◌-◌}
 use native.Mathlib.Omega.{arith}
 use Rattle.verifier.proofs.typing.type_class.Goals as goal
 

@@ -1,10 +1,8 @@
 use mathlib.Core.Path.{refl, sym, ◌∙◌}
 use native.Mathlib.Omega.{arith}
 use borrow.Author.Rules.{rules}
-use Prim.Native.Nat.{◌-◌}
 use mathlib.Core.Path.{subst, ap}
 use lib.ListN.{length}
-use borrow.Author.Tests.{not-false}
 use Rattle.verifier.specs.Lineup.{code_short}
 use Rattle.texts.specs.Reading.{part}
 use Rattle.verifier.specs.Quick.{Open}

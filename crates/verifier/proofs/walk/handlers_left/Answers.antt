@@ -1,4 +1,3 @@
-use borrow.Author.Tests.{not-true}
 use Rattle.verifier.specs.Ahead.{handled_left}
 use Rattle.verifier.proofs.walk.handlers_left.Goals as goal
 

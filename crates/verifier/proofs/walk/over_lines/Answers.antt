@@ -1,7 +1,6 @@
 use mathlib.Core.Path.{refl, ◌∙◌}
 use native.Mathlib.Omega.{arith}
 use borrow.Author.Rules.{rules}
-use Prim.Native.Nat.{◌-◌}
 use Rattle.texts.specs.Reading.{part}
 use Rattle.verifier.specs.Lineup.{walking_at}
 use Rattle.verifier.specs.Ahead.{beyond_start, beyond_on, quiet_start, quiet_on}
