@@ -137,9 +137,6 @@ def main():
         if done != text:
             with open(path, "w", encoding="utf-8") as file:
                 file.write(done)
-    with open("/tmp/respelled.tsv", "w") as file:
-        for old, new in sorted({**turned, **lems}.items()):
-            file.write("%s\t%s\n" % (old, new))
     print("%d names, %d lemmas beside their function's name" % (len(turned), len(lems)))
 
 
