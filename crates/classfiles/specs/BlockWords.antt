@@ -1,9 +1,6 @@
 -- Words of a block as they are written: what a store leaves alone, and rows one after the other. Assumes nothing.
-use Prim.Native.Nat.{ℕ, zero, suc, ◌+◌, ◌*◌, ◌^◌, ◌<◌, ◌≤◌, min}
 use Rattle.std.specs.Prelude.{◌≡◌, List, [], ◌∷◌, ◌++◌, length, get_or, take}
-use Rattle.std.proofs.Math.Path.{refl, ap}
-use Rattle.std.proofs.Common.{sym, ◌∙◌, arith, add-one, length-take, ext_get_or, get_or-take, take-take}
-use Rattle.std.proofs.Math.ListN.{length-append}
+use Rattle.std.proofs.Common.{sym, ◌∙◌, arith, add-one, length-take, ext_get_or, get_or-take, take-take, ℕ, zero, suc, ◌+◌, ◌*◌, ◌^◌, ◌<◌, ◌≤◌, min, refl, ap, length-append}
 use Rattle.kit.specs.Words.{word, put_word, word-take, word_same, word_other, byte_other, length_put}
 use Rattle.classfiles.specs.Pool.{Constant}
 use Rattle.classfiles.specs.Members.{Member}

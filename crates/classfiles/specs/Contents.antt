@@ -1,48 +1,71 @@
 -- What the code's answers about attributes and members stand for.
-use Rattle.std.specs.Prelude.{ℕ, ◌-◌, ◌<◌, ◌≡◌, refl, List, false, not}
-use Rattle.std.proofs.Common.{ap, ◌∙◌}
-use Rattle.texts.specs.Reading.{Res, ok, sum_at, part}
-use Rattle.texts.specs.Answers.{res_as, no_ok, as_ok, reads}
-use Rattle.classfiles.specs.Loops.{sum_more}
-use Rattle.classfiles.specs.Pool.{Constant}
-use Rattle.classfiles.specs.Members.{Found, Body, Member, another}
-use Rattle.classfiles.specs.Attributes.{found_of, body_of, member_of}
-use Rattle.texts.specs.declared.items.Got.{Got}
-use Rattle.classfiles.specs.declared.members.Content.{Content}
-use Rattle.classfiles.specs.declared.members.Noted.{Noted}
+use Rattle.std.specs.Prelude.{ℕ, ◌≡◌, refl, List}
+use Rattle.texts.specs.Reading.{part}
+use Rattle.classfiles.specs.Members.{Found, none, once, twice, Body, another}
+use Rattle.classfiles.specs.Attributes.{body_of}
+use Rattle.classfiles.specs.declared.members.Found as code
+use Rattle.classfiles.specs.declared.members.Part.{Part}
 use Rattle.classfiles.specs.declared.members.Code.{Code}
-use Rattle.classfiles.specs.declared.members.Coded.{Coded}
 
-abbrev pub content_in : List ℕ → Content → Found (List ℕ)
-content_in s c = found_of c.count (part s c.from c.len)
+-- what is found, each seen as f says
+abbrev pub found : {T A : Type 0} → (T → A) → code.Found T → Found A
+found f code.TheVariants.None = none
+found f (code.TheVariants.Once v) = once (f v)
+found f code.TheVariants.Twice = twice
 
-abbrev pub noted : List ℕ → Noted → Res (Found (List ℕ))
-noted s r = res_as r.got (content_in s r.what)
+abbrev pub kept : {T : Type 0} → code.Found T → Found T
+kept = found (λ v. v)
 
-abbrev pub code_in : List ℕ → Code → Found Body
-code_in s c = found_of c.count (body_of s c.start (content_in s c.frames))
+abbrev pub content_in : List ℕ → code.Found Part → Found (List ℕ)
+content_in s = found (λ p. part s p.from p.len)
 
-abbrev pub coded : List ℕ → Coded → Res (Found Body)
-coded s r = res_as r.got (code_in s r.code)
+abbrev pub code_in : List ℕ → code.Found Code → Found Body
+code_in s = found (λ c. body_of s c.start (content_in s c.frames))
 
--- the member that starts at q
-abbrev pub member_res : List ℕ → List Constant → ℕ → Coded → Res Member
-member_res s pool q r = res_as r.got (member_of s pool q (code_in s r.code))
+-- one more is one more, whatever it is seen as
+mapped : {T A : Type 0} → (T → A) → Found T → Found A
+mapped f none = none
+mapped f (once v) = once (f v)
+mapped f twice = twice
 
--- r is both together, whatever bytes they stand in
-pub record Tallies (x y r : Content) : Type 0 where
-  pub both : (s : List ℕ) → content_in s r ≡ another (content_in s x) (content_in s y)
+module _ {T A : Type 0} (f : T → A) where
+  as_mapped : (x : code.Found T) → found f x ≡ mapped f (kept x)
+  unfolding mapped
+  as_mapped code.TheVariants.None = refl
+  as_mapped (code.TheVariants.Once v) = refl
+  as_mapped code.TheVariants.Twice = refl
 
-pub record CodeTallies (x y r : Code) : Type 0 where
-  pub both : (s : List ℕ) → code_in s r ≡ another (code_in s x) (code_in s y)
+  mapped_another : (x y : Found T) → mapped f (another x y) ≡ another (mapped f x) (mapped f y)
+  unfolding mapped another
+  mapped_another x none = refl
+  mapped_another none (once v) = refl
+  mapped_another (once w) (once v) = refl
+  mapped_another twice (once v) = refl
+  mapped_another x twice = refl
 
--- an answer that is handed on with the value it stands for
-pub as_done : {A : Type 0} (a : Got) (v w : A) → not a.ok ≡ false → v ≡ w → res_as a v ≡ ok w a.at
-as_done {A} a v w t p = no_ok (res_as a v) a v refl t ∙ ap (λ (y : A). ok y a.at) p
+  pub another_seen : (x y r : code.Found T) → kept r ≡ another (kept x) (kept y) → found f r ≡ another (found f x) (found f y)
+  another_seen x y r h = rw (as_mapped r, as_mapped x, as_mapped y, h) (mapped_another (kept x) (kept y))
 
-pub ruleset notes = (reads, as_ok, as_done)
+-- which of two is kept
+module _ {T : Type 0} (x y : code.Found T) where
+  pub kept_first : y ≡ code.TheVariants.None → kept x ≡ another (kept x) (kept y)
+  unfolding another
+  kept_first e = rw e refl
 
--- a loop that keeps a sum: one more item, of which the new sum is told
-pub sum_on : {A B : Type 0} (f : ℕ → Res A) (g : B → A → B) (n q : ℕ) (b : B) (x : Res B) → sum_at f g n b q ≡ x → (a : Got) (v : A) → 0 < n → res_as a v ≡ f q → not a.ok ≡ false
-    → (d : B) → d ≡ g b v → sum_at f g (n - 1) d a.at ≡ x
-sum_on {A} {B} f g n q b x i a v h e t d z = ap (λ (y : B). sum_at f g (n - 1) y a.at) z ∙ sum_more f g n q b x i a v h e t
+  pub kept_twice : y ≡ code.TheVariants.Twice → twice ≡ another (kept x) (kept y)
+  unfolding another
+  kept_twice e = rw e refl
+
+  module _ (v : T) (e : y ≡ code.TheVariants.Once v) where
+    pub kept_other : x ≡ code.TheVariants.None → kept y ≡ another (kept x) (kept y)
+    unfolding another
+    kept_other z = rw (e, z) refl
+
+    pub kept_both : (x ≡ code.TheVariants.None → ⊥) → twice ≡ another (kept x) (kept y)
+    unfolding another
+    kept_both n = rw e (by x n)
+      where
+        by : (w : code.Found T) → (w ≡ code.TheVariants.None → ⊥) → twice ≡ another (kept w) (once v)
+        by code.TheVariants.None m = absurd (m refl)
+        by (code.TheVariants.Once a) m = refl
+        by code.TheVariants.Twice m = refl

@@ -1,22 +1,14 @@
 -- The check of a pool once it is read, as the code makes it. Assumes nothing.
-use Rattle.std.specs.Prelude.{ℕ, ◌+◌, ◌-◌, ◌*◌, ◌/◌, ◌<◌, ◌≤◌, Bool, cond, not, eqb, get_or, take, drop}
-use Rattle.std.proofs.Math.Path.{◌≡◌, refl, ap}
-use Rattle.std.proofs.Common.{sym, ◌∙◌, arith, ext_get_or, length-take-le, get_or-take}
-use mathlib.Core.List.{List}
-use Rattle.std.proofs.Math.Bool.{true, false}
-use Rattle.std.proofs.Math.ListN.{length}
-use borrow.Author.Tests.{lt-ltb, le-ltb, ne_eqb}
-use Rattle.kit.specs.Scan.{first_not, scan_start}
+use Rattle.std.specs.Prelude.{ℕ, ◌+◌, ◌-◌, ◌*◌, ◌/◌, ◌<◌, ◌≤◌, Bool, cond, eqb, get_or, take}
+use Rattle.std.proofs.Common.{sym, ◌∙◌, arith, ext_get_or, length-take-le, get_or-take, ◌≡◌, refl, ap, List, true, false, length, lt-ltb, le-ltb, eq-eqb, ne_eqb}
+use Rattle.kit.specs.Scan.{first_not, scan_start, next, hit, past}
 use Rattle.kit.specs.Words.{word, words, words_at, word-take, length_words}
 use Rattle.texts.specs.Reading.{Res, ok, bad, u2_at, u4_at, part}
-use Rattle.texts.specs.Answers.{res, res_as, is_ok_lem, is_bad, no_ok, no_bad, as_bad}
 use Rattle.classfiles.specs.Descriptors.{class_type_at}
 use Rattle.classfiles.specs.Shapes.{seen, class_shape, class-shape}
 use Rattle.classfiles.specs.Pool.{Constant, absent, utf8, integer, class_at, fieldref, methodref, name_and_type, constant_at, constants, entry, text, is_utf8, is_class, is_name_and_type, res_fault, name_fault, pair_fault, constant_fault, entry_fault, judged_at, checked_at}
-use Rattle.classfiles.specs.Table.{pool_in, IsText, length-pool}
+use Rattle.classfiles.specs.Table.{pool_in, length-pool}
 use Rattle.classfiles.specs.Tags.{at_class, at_field, at_method, at_pair}
-use Rattle.texts.specs.declared.items.Got.{Got}
-use Rattle.classfiles.specs.declared.pool.Span.{Span}
 
 unfoldable pub sound : List Constant → ℕ → Bool
 sound pool i = eqb (entry_fault pool i) 0
@@ -26,35 +18,34 @@ unfoldable pub first_fault : List Constant → ℕ
 first_fault pool = first_not (sound pool) (length pool) 0
 
 -- a Class's name, from what the reading of its form says
-module _ {A : Type 0} (x : Res A) (g : Got) where
-  fault_none : res g ≡ seen (λ a. 0) x → g.ok ≡ true → 0 ≡ res_fault x
+module _ {A : Type 0} (x : Res A) where
+  fault_none : (e : ℕ) → ◌≡◌ {A = Res ℕ} (ok 0 e) (seen (λ a. 0) x) → 0 ≡ res_fault x
   unfolding seen
-  fault_none h t = go x (sym (is_ok_lem _ g g.val h t))
+  fault_none e h = go x h
     where
-      go : (x : Res A) → ok g.val g.at ≡ seen (λ a. 0) x → 0 ≡ res_fault x
-      go (ok v e) p = refl
-      go (bad n q) p = let z : ◌≡◌ {A = ℕ} 0 1 = cc in absurd (omega arith)
-
-  fault_some : res g ≡ seen (λ a. 0) x → g.ok ≡ false → g.val ≡ res_fault x
-  unfolding seen
-  fault_some h t = go x (sym (is_bad _ g g.val h t))
-    where
-      go : (x : Res A) → ◌≡◌ {A = Res ℕ} (bad g.val g.at) (seen (λ a. 0) x) → g.val ≡ res_fault x
-      go (ok v e) p = let z : ◌≡◌ {A = ℕ} 0 1 = cc in absurd (omega arith)
+      go : (x : Res A) → ◌≡◌ {A = Res ℕ} (ok 0 e) (seen (λ a. 0) x) → 0 ≡ res_fault x
+      go (ok v a) p = refl
       go (bad n q) p = cc
 
-module _ (pool : List Constant) (i : ℕ) (s : List ℕ) (r : Span) (e : IsText s r (text pool i)) (g : Got)
-    (h : res g ≡ class_shape (take (r.end - r.start) (drop r.start s)) 0) where
-  shape : res g ≡ seen (λ r. 0) (class_type_at (λ t. 0) (text pool i) 0)
-  shape = h ∙ ap (λ (l : List ℕ). class_shape l 0) e.is ∙ sym (class-shape (λ t. 0) (text pool i) 0)
+  fault_some : (n p : ℕ) → ◌≡◌ {A = Res ℕ} (bad n p) (seen (λ a. 0) x) → n ≡ res_fault x
+  unfolding seen
+  fault_some n p h = go x h
+    where
+      go : (x : Res A) → ◌≡◌ {A = Res ℕ} (bad n p) (seen (λ a. 0) x) → n ≡ res_fault x
+      go (ok v a) p = cc
+      go (bad m q) p = cc
 
-  pub name_none : is_utf8 (entry pool i) ≡ true → g.ok ≡ true → 0 ≡ name_fault pool i
-  unfolding name_fault
-  name_none u t = rw u (fault_none (class_type_at (λ t. 0) (text pool i) 0) g shape t)
+module _ (pool : List Constant) (i : ℕ) (t : List ℕ) (e : t ≡ text pool i) where
+  shape : class_shape t 0 ≡ seen (λ r. 0) (class_type_at (λ t. 0) (text pool i) 0)
+  shape = ap (λ (l : List ℕ). class_shape l 0) e ∙ sym (class-shape (λ t. 0) (text pool i) 0)
 
-  pub name_some : is_utf8 (entry pool i) ≡ true → g.ok ≡ false → g.val ≡ name_fault pool i
+  pub name_none : (a : ℕ) → ok 0 a ≡ class_shape t 0 → is_utf8 (entry pool i) ≡ true → 0 ≡ name_fault pool i
   unfolding name_fault
-  name_some u t = rw u (fault_some (class_type_at (λ t. 0) (text pool i) 0) g shape t)
+  name_none a h u = rw u (fault_none (class_type_at (λ t. 0) (text pool i) 0) a (h ∙ shape))
+
+  pub name_some : (n p : ℕ) → bad n p ≡ class_shape t 0 → is_utf8 (entry pool i) ≡ true → n ≡ name_fault pool i
+  unfolding name_fault
+  name_some n p h u = rw u (fault_some (class_type_at (λ t. 0) (text pool i) 0) n p (h ∙ shape))
 
 pub name_other : (pool : List Constant) (i : ℕ) → false ≡ is_utf8 (entry pool i) → 5 ≡ name_fault pool i
 unfolding name_fault
@@ -89,25 +80,30 @@ module _ (s : List ℕ) (pool : List Constant) (i q k : ℕ) (p : constant_at s 
       go false true = refl
       go false false = refl
 
--- a loop that counts i up to the count n
-pub faults_start : (s t : List ℕ) (n : ℕ) → n ≡ length t / 4 → first_not (sound (pool_in s t)) (n - 0) 0 ≡ first_fault (pool_in s t)
-unfolding first_fault
-faults_start s t n e =
-    scan_start (sound (pool_in s t)) n ∙ ap (λ (m : ℕ). first_not (sound (pool_in s t)) m 0) (e ∙ sym (length-pool s t))
+-- the table's check: a loop that counts k up to the count n
+module _ (s t : List ℕ) (e n : ℕ) (z : n ≡ length t / 4) where
+  pub faults_start : first_not (sound (pool_in s t)) (n - 0) 0 ≡ first_fault (pool_in s t)
+  unfolding first_fault
+  faults_start = scan_start (sound (pool_in s t)) n ∙ ap (λ (m : ℕ). first_not (sound (pool_in s t)) m 0) (z ∙ sym (length-pool s t))
 
--- the table's check, from the first fault
-module _ (s t : List ℕ) (e k : ℕ) (h : k ≡ first_fault (pool_in s t)) where
-  pub checked_bad : (n v p : ℕ) → n ≡ length t / 4 → k < n → v ≡ entry_fault (pool_in s t) k → p ≡ word t k → bad v p ≡ checked_at (words t) (pool_in s t) e
-  unfolding checked_at judged_at first_fault sound
-  checked_bad n v p z l d w =
-      let b : k < length (pool_in s t) = omega (arith, length-pool s t) in
-      rw (← h, lt-ltb k (length (pool_in s t)) b) (cc (words_at t k))
+  module _ (k : ℕ) (v : first_not (sound (pool_in s t)) (n - k) k ≡ first_fault (pool_in s t)) where
+    pub faults_next : k < n → 0 ≡ entry_fault (pool_in s t) k → first_not (sound (pool_in s t)) (n - (k + 1)) (k + 1) ≡ first_fault (pool_in s t)
+    unfolding sound
+    faults_next l d = next (sound (pool_in s t)) n k _ v l (eq-eqb (entry_fault (pool_in s t) k) 0 (sym d))
 
-  pub checked_ok : (n : ℕ) → n ≡ length t / 4 → n ≤ k → ok (pool_in s t) e ≡ checked_at (words t) (pool_in s t) e
-  unfolding checked_at judged_at first_fault sound
-  checked_ok n z l =
-      let b : length (pool_in s t) ≤ k = omega (arith, length-pool s t) in
-      rw (← h, le-ltb k (length (pool_in s t)) b)
+    pub checked_bad : (m p : ℕ) → (m ≡ 0 → ⊥) → k < n → m ≡ entry_fault (pool_in s t) k → p ≡ word t k → bad m p ≡ checked_at (words t) (pool_in s t) e
+    unfolding checked_at judged_at first_fault sound
+    checked_bad m p q l d w =
+        let h : k ≡ first_fault (pool_in s t) = hit (sound (pool_in s t)) n k _ v l (ne_eqb (entry_fault (pool_in s t) k) 0 (λ y. q (d ∙ y))) in
+        let b : k < length (pool_in s t) = omega (arith, length-pool s t) in
+        rw (← h, lt-ltb k (length (pool_in s t)) b) (cc (words_at t k))
+
+    pub checked_ok : n ≤ k → ok (pool_in s t) e ≡ checked_at (words t) (pool_in s t) e
+    unfolding checked_at judged_at first_fault sound
+    checked_ok l =
+        let h : k ≡ first_fault (pool_in s t) = past (sound (pool_in s t)) n k _ v l in
+        let b : length (pool_in s t) ≤ k = omega (arith, length-pool s t) in
+        rw (← h, le-ltb k (length (pool_in s t)) b)
 
 -- the table's first n words as a part of it
 pub words_take : (n : ℕ) (t : List ℕ) → 4 * n ≤ length t → words (take (4 * n) t) ≡ take n (words t)
@@ -118,21 +114,16 @@ words_take n t h =
     ext_get_or 0 (words (take (4 * n) t)) (take n (words t)) (b ∙ sym c)
     (λ i l. words_at (take (4 * n) t) i ∙ word-take (4 * n) t i (omega arith) ∙ sym (words_at t i) ∙ sym (get_or-take n (words t) i 0 (omega arith)))
 
--- the check of the table that was just read, as `pool` hands it down: a part from 0 on
-module _ (s t : List ℕ) (n e : ℕ) (f : 4 * n ≤ length t) (c : Got)
-    (h : res_as c (pool_in s (take (4 * n - 0) (drop 0 t))) ≡ checked_at (words (take (4 * n - 0) (drop 0 t))) (pool_in s (take (4 * n - 0) (drop 0 t))) e) where
-  part_is : take (4 * n - 0) (drop 0 t) ≡ take (4 * n) t
-  part_is = let z : 4 * n - 0 ≡ 4 * n = omega arith in ap (λ (m : ℕ). take m t) z
-
-  table_is : res_as c (pool_in s (take (4 * n) t)) ≡ checked_at (take n (words t)) (constants s (take n (words t))) e
+-- the check of the table that was just read
+module _ (s t : List ℕ) (n e : ℕ) (f : 4 * n ≤ length t) where
+  table_is : checked_at (words (take (4 * n) t)) (pool_in s (take (4 * n) t)) e ≡ checked_at (take n (words t)) (constants s (take n (words t))) e
   unfolding pool_in
-  table_is =
-      ap (λ (l : List ℕ). res_as c (pool_in s l)) (sym part_is) ∙ h
-      ∙ ap (λ (l : List ℕ). checked_at (words l) (constants s (words l)) e) part_is
-      ∙ ap (λ (w : List ℕ). checked_at w (constants s w) e) (words_take n t f)
+  table_is = ap (λ (w : List ℕ). checked_at w (constants s w) e) (words_take n t f)
 
-  pub table_ok : not c.ok ≡ false → ok (pool_in s (take (4 * n) t)) c.at ≡ checked_at (take n (words t)) (constants s (take n (words t))) e
-  table_ok o = sym (no_ok _ c (pool_in s (take (4 * n) t)) table_is o)
+  pub table_ok : (a : ℕ) → ok (pool_in s (take (4 * n) t)) a ≡ checked_at (words (take (4 * n) t)) (pool_in s (take (4 * n) t)) e
+      → ok (pool_in s (take (4 * n) t)) a ≡ checked_at (take n (words t)) (constants s (take n (words t))) e
+  table_ok a h = h ∙ table_is
 
-  pub table_bad : (w : List Constant) → not c.ok ≡ true → res_as c w ≡ checked_at (take n (words t)) (constants s (take n (words t))) e
-  table_bad w o = as_bad c w o ∙ sym (no_bad _ c (pool_in s (take (4 * n) t)) table_is o)
+  pub table_bad : (m p : ℕ) → bad m p ≡ checked_at (words (take (4 * n) t)) (pool_in s (take (4 * n) t)) e
+      → bad m p ≡ checked_at (take n (words t)) (constants s (take n (words t))) e
+  table_bad m p h = h ∙ table_is

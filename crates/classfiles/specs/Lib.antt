@@ -1,8 +1,8 @@
 pub mod Limits
+pub mod Past
 pub mod Loops
 pub mod Descriptors
 pub mod Shapes
-pub mod Counted
 pub mod Pool
 pub mod Table
 pub mod Tags

@@ -1,12 +1,7 @@
 -- Items in a row, as a loop reads them: those read so far are in front of those that are left. Assumes nothing.
-use Rattle.std.specs.Prelude.{ℕ, suc, ◌+◌, ◌-◌, ◌<◌, ◌≤◌, ◌≡◌, true, false, not}
-use Rattle.std.proofs.Math.Path.{refl, sym, ap}
-use Rattle.std.proofs.Common.{◌∙◌}
-use mathlib.Core.List.{List, [], ◌∷◌, ◌++◌, append_assoc, append-nil}
-use native.Mathlib.Omega.{arith}
+use Rattle.std.specs.Prelude.{ℕ, suc, ◌+◌, ◌-◌, ◌<◌, ◌≤◌, ◌≡◌, refl, List, [], ◌∷◌, ◌++◌}
+use Rattle.std.proofs.Common.{sym, ap, ◌∙◌, arith, append_assoc, append-nil}
 use Rattle.texts.specs.Reading.{Res, ok, bad, and_then, pre, many, sum_at}
-use Rattle.texts.specs.Answers.{res_as, no_ok, no_bad, as_bad}
-use Rattle.texts.specs.declared.items.Got.{Got}
 
 one_less : (n : ℕ) → 0 < n → n ≡ suc (n - 1)
 one_less n h = omega arith
@@ -43,28 +38,32 @@ module _ {A : Type 0} where
     pub many_done : n ≤ k → ok xs q ≡ x
     many_done h = sym (many_none f xs (n - k) q (omega arith)) ∙ i
 
-    module _ (a : Got) (v : A) (h : k < n) (e : res_as a v ≡ f q) where
-      pub many_stop : (w : List A) → not a.ok ≡ true → res_as a w ≡ x
-      many_stop w t = as_bad a w t ∙ sym (many_bad f xs (n - k) q a.val a.at (omega arith) (no_bad (f q) a v e t)) ∙ i
+    module _ (h : k < n) where
+      pub many_stop : (m p : ℕ) → bad m p ≡ f q → bad m p ≡ x
+      many_stop m p e = sym (many_bad f xs (n - k) q m p (omega arith) (sym e)) ∙ i
 
-      pub many_next : not a.ok ≡ false → pre (xs ++ (v ∷ [])) (many f (n - (k + 1)) a.at) ≡ x
-      many_next t =
+      pub many_next : (v : A) (a : ℕ) → ok v a ≡ f q → pre (xs ++ (v ∷ [])) (many f (n - (k + 1)) a) ≡ x
+      many_next v a e =
           let z : n - (k + 1) ≡ n - k - 1 = omega arith in
-          ap (λ (m : ℕ). pre (xs ++ (v ∷ [])) (many f m a.at)) z
-          ∙ sym (many_more f xs (n - k) q v a.at (omega arith) (no_ok (f q) a v e t))
+          ap (λ (m : ℕ). pre (xs ++ (v ∷ [])) (many f m a)) z
+          ∙ sym (many_more f xs (n - k) q v a (omega arith) (sym e))
           ∙ i
 
--- a loop that counts the items down and keeps their sum
-module _ {A B : Type 0} (f : ℕ → Res A) (g : B → A → B) (n q : ℕ) (b : B) (x : Res B) (i : sum_at f g n b q ≡ x) where
-  pub sum_none : n ≤ 0 → ok b q ≡ x
+-- a loop that counts k up to n and keeps the items' sum
+module _ {A B : Type 0} (f : ℕ → Res A) (g : B → A → B) (n k q : ℕ) (b : B) (x : Res B) (i : sum_at f g (n - k) b q ≡ x) where
+  pub sum_none : n ≤ k → ok b q ≡ x
   unfolding sum_at
-  sum_none h = let e : n ≡ 0 = omega arith in sym (rw e) ∙ i
+  sum_none h = let e : n - k ≡ 0 = omega arith in sym (rw e) ∙ i
 
-  module _ (a : Got) (v : A) (h : 0 < n) (e : res_as a v ≡ f q) where
-    pub sum_bad : (w : B) → not a.ok ≡ true → res_as a w ≡ x
-    unfolding sum_at and_then
-    sum_bad w t = as_bad a w t ∙ sym (rw (one_less n h) (simp (sum_at, no_bad (f q) a v e t))) ∙ i
+  module _ (h : k < n) where
+    left : n - k ≡ suc (n - (k + 1))
+    left = omega arith
 
-    pub sum_more : not a.ok ≡ false → sum_at f g (n - 1) (g b v) a.at ≡ x
+    pub sum_bad : (m p : ℕ) → bad m p ≡ f q → bad m p ≡ x
     unfolding sum_at and_then
-    sum_more t = rw (one_less n h) (simp (sum_at, less_one, no_ok (f q) a v e t)) ∙ i
+    sum_bad m p e = let d : f q ≡ bad m p = sym e in sym (rw left (simp (sum_at, d))) ∙ i
+
+    -- the new sum is told apart
+    pub sum_more : (v : A) (a : ℕ) → ok v a ≡ f q → (d : B) → d ≡ g b v → sum_at f g (n - (k + 1)) d a ≡ x
+    unfolding sum_at and_then
+    sum_more v a e d z = let w : f q ≡ ok v a = sym e in rw z (sym (rw left (simp (sum_at, w))) ∙ i)

@@ -1,19 +1,13 @@
 -- Where the readings of attributes and members end. Assumes nothing.
-use Rattle.std.specs.Prelude.{ℕ, zero, suc, ◌≤◌, ◌≡◌, refl, List, Bool, cond, not}
-use Rattle.std.proofs.Common.{sym, eqb-true}
-use Rattle.std.proofs.Math.Path.{subst}
-use Rattle.std.proofs.Math.Bool.{true, false}
-use Rattle.std.proofs.Math.ListN.{length}
-use Rattle.std.proofs.Math.Dec.{eqb}
+use Rattle.std.specs.Prelude.{ℕ, zero, suc, ◌≤◌, ◌≡◌, refl, List, Bool, cond}
+use Rattle.std.proofs.Common.{sym, eqb-true, subst, true, false, length, eqb}
 use Rattle.kit.specs.Lists.{eq_list}
 use Rattle.classfiles.specs.Limits.{max_stack_limit, max_locals_limit}
 use Rattle.texts.specs.Reading.{Res, ok, bad, sum_at, num2_at, skip_at, short_at, u2, u4}
-use Rattle.texts.specs.Answers.{res_as, no_ok}
 use Rattle.texts.specs.Ends.{Ends, ends_of, then_ends, kept_ends, cond_ends, num2_ends, skip_ends}
 use Rattle.texts.specs.Names.{Code}
 use Rattle.classfiles.specs.Pool.{Constant, text, utf8_index_at}
 use Rattle.classfiles.specs.Members.{Found, none, another, Body, Member, code_at, table_at, inners_at, body_at, attribute_at, attributes_at, access_at, name_at, descriptor_at, member_at}
-use Rattle.texts.specs.declared.items.Got.{Got}
 
 sum_ends : {A B : Type 0} (n : ℕ) (f : ℕ → Res A) (g : B → A → B) → ((q : ℕ) → Ends n (f q)) → (k : ℕ) (b : B) (q : ℕ) → q ≤ n → Ends n (sum_at f g k b q)
 unfolding sum_at
@@ -55,5 +49,5 @@ module _ (s : List ℕ) (pool : List Constant) where
       (λ descriptor c. kept_ends L (attributes_at s pool method c) _ (attributes_ends method c) (λ body e l. l))))
 
   -- the code's answer
-  pub member_end : (method : Bool) (q : ℕ) (a : Got) (m : Member) → res_as a m ≡ member_at s pool method q → not a.ok ≡ false → a.at ≤ length s
-  member_end method q a m h t = ends_of (length s) (member_at s pool method q) m a.at (member_ends method q) (no_ok _ a m h t)
+  pub member_end : (method : Bool) (q : ℕ) (m : Member) (a : ℕ) → ok m a ≡ member_at s pool method q → a ≤ length s
+  member_end method q m a h = ends_of (length s) (member_at s pool method q) m a (member_ends method q) (sym h)

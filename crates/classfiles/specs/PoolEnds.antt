@@ -1,13 +1,12 @@
 -- What the readings of a pool and of its indices give, and where they end. Assumes nothing.
-use Rattle.std.specs.Prelude.{ℕ, ◌-◌, ◌≤◌, ◌≡◌, refl, List, [], ◌∷◌, Bool, true, false, cond, not, length, ltb, eqb}
+use Rattle.std.specs.Prelude.{ℕ, ◌-◌, ◌≤◌, ◌≡◌, refl, List, [], ◌∷◌, Bool, true, false, cond, length, ltb, eqb}
+use Rattle.std.proofs.Common.{sym}
 use Rattle.kit.specs.Scan.{first_not}
 use Rattle.classfiles.specs.Limits.{max_pool_count}
 use Rattle.texts.specs.Reading.{Res, ok, bad, pre, many, u2}
-use Rattle.texts.specs.Answers.{res, res_as, no_ok}
 use Rattle.texts.specs.Ends.{Holds, holds_of, then-holds, cond-holds, Ends, ends_of, kept_ends, cond_ends, pre_ends, many_ends, IsU2, u2-holds}
 use Rattle.classfiles.specs.Pool.{Constant, entry, is_utf8, is_class, entry_at, entry_fault, judged_at, checked_at, constants, tags_at, pool_at, utf8_index_at, is_array_name, class_text, class_index_at}
 use Rattle.classfiles.specs.Table.{entry-holds, IsEntry}
-use Rattle.texts.specs.declared.items.Got.{Got}
 
 entry_ends : (s : List ℕ) (q : ℕ) → Ends (length s) (entry_at s q)
 entry_ends s q = by (entry_at s q) (entry-holds s q)
@@ -34,8 +33,8 @@ pool_ends s q =
     (λ tags e g. cond_ends (length s) (ltb (first_not (λ i. eqb (entry_fault (constants s tags) i) 0) (length (constants s tags)) 0) (length (constants s tags))) _ _ tt g))))
 
 -- the code's answers
-pub pool_end : (s : List ℕ) (q : ℕ) (a : Got) (p : List Constant) → res_as a p ≡ pool_at s q → not a.ok ≡ false → a.at ≤ length s
-pool_end s q a p h t = ends_of (length s) (pool_at s q) p a.at (pool_ends s q) (no_ok _ a p h t)
+pub pool_end : (s : List ℕ) (q a : ℕ) (p : List Constant) → ok p a ≡ pool_at s q → a ≤ length s
+pool_end s q a p h = ends_of (length s) (pool_at s q) p a (pool_ends s q) (sym h)
 
 -- an index of a Utf8: the number, where it ends, and the kind of its entry
 abbrev pub IsUtf8Index : List ℕ → List Constant → ℕ → ℕ → ℕ → Type 0
@@ -50,10 +49,8 @@ utf8-index-holds s pool q =
     by i e h true k = (h, k)
     by i e h false k = tt
 
-pub utf8-index_val : (s : List ℕ) (pool : List Constant) (q : ℕ) (a : Got) → res a ≡ utf8_index_at s pool q → not a.ok ≡ false
-    → IsUtf8Index s pool q a.val a.at
-utf8-index_val s pool q a h t =
-    holds_of (IsUtf8Index s pool q) (utf8_index_at s pool q) a.val a.at (utf8-index-holds s pool q) (no_ok _ a a.val h t)
+pub utf8-index_val : (s : List ℕ) (pool : List Constant) (q : ℕ) (v a : ℕ) → ok v a ≡ utf8_index_at s pool q → IsUtf8Index s pool q v a
+utf8-index_val s pool q v a h = holds_of (IsUtf8Index s pool q) (utf8_index_at s pool q) v a (utf8-index-holds s pool q) (sym h)
 
 -- an index of a Class
 abbrev pub IsClassIndex : List Constant → ℕ → ℕ → ℕ → ℕ → Type 0
@@ -67,7 +64,6 @@ class-index-holds s pool q i e = by (is_class (entry pool i)) refl
     by true k = cond-holds (IsClassIndex pool i e) (is_array_name (class_text pool i)) (bad 7 q) (ok i e) tt (refl, refl, k)
     by false k = tt
 
-pub class-index_val : (s : List ℕ) (pool : List Constant) (q i e : ℕ) (a : Got) → res a ≡ class_index_at s pool q i e → not a.ok ≡ false
-    → IsClassIndex pool i e a.val a.at
-class-index_val s pool q i e a h t =
-    holds_of (IsClassIndex pool i e) (class_index_at s pool q i e) a.val a.at (class-index-holds s pool q i e) (no_ok _ a a.val h t)
+pub class-index_val : (s : List ℕ) (pool : List Constant) (q i e v a : ℕ) → ok v a ≡ class_index_at s pool q i e → IsClassIndex pool i e v a
+class-index_val s pool q i e v a h =
+    holds_of (IsClassIndex pool i e) (class_index_at s pool q i e) v a (class-index-holds s pool q i e) (sym h)

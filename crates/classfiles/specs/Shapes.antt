@@ -1,27 +1,20 @@
 -- Descriptors read for their form alone: where they end and how many parameters and results they have. What phase A asks.
-use Prim.Native.Nat.{ℕ, zero, suc, ◌+◌, ◌-◌, ◌<◌, ◌≤◌}
-use Rattle.std.specs.Prelude.{◌≡◌, Bool, not, get_or, ltb}
-use Rattle.std.proofs.Math.Path.{refl, sym, ap}
-use Rattle.std.proofs.Common.{◌∙◌}
-use mathlib.Core.List.{List, [], ◌∷◌}
-use Rattle.std.proofs.Math.Bool.{true, false, cond}
-use native.Mathlib.Omega.{arith}
-use Rattle.std.proofs.Math.ListN.{length, get_or-eq_default}
-use Rattle.std.proofs.Math.Dec.{eqb}
-use borrow.Author.Tests.{ltb-true, ltb-false, eqb-true, not-true, not-false}
+use Rattle.std.specs.Prelude.{ℕ, zero, suc, ◌+◌, ◌-◌, ◌<◌, ◌≤◌, ◌≡◌, refl, List, [], ◌∷◌, Bool, true, false, cond, not, eqb, ltb, length, get_or, Result, IsErrAnd}
+use Rattle.std.proofs.Common.{sym, ap, ◌∙◌, arith, ltb-true, ltb-false, eqb-true}
+use Rattle.std.proofs.Math.ListN.{get_or-eq_default}
+use Rattle.std.proofs.lemmas.Bool.{not-true, not-false}
 use Rattle.kit.specs.Scan.{first_ge}
 use Rattle.classfiles.specs.Limits.{max_dimensions}
 use Rattle.texts.specs.Reading.{Res, ok, bad, and_then, pre, part}
+use Rattle.texts.specs.Faults.{number}
 use Rattle.texts.specs.Answers.{res, t_ok, t_stop}
 use Rattle.texts.specs.Names.{Text, class_name}
-use Rattle.texts.specs.declared.items.Got.{Got}
+use Rattle.texts.specs.declared.faults.Got.{Got}
+use Rattle.texts.specs.declared.faults.Fault.{Fault}
+pub use Rattle.classfiles.specs.declared.descriptors.Arity.{Arity}
 use Rattle.classfiles.specs.Descriptors.{cls, arr, Desc, dint, dref, MethodType, method_type, in_name, semicolon, named_at, base_at, type_at, params_at, results_at, whole, field_type_at, method_type_at, as_ref, class_type_at}
 
 -- how many parameters and results
-pub record Arity : Type 0 where
-  pub params : ℕ
-  pub results : ℕ
-
 abbrev pub arity : ℕ → ℕ → Arity
 arity n m = record { params = n; results = m }
 
@@ -245,61 +238,52 @@ semicolon_past t q r e = rw e (first_ge (in_name t) (length t - q) q)
 pub named_via : (R : Res ℕ) (t : Text) (p q k z : ℕ) → k ≡ z → R ≡ named_shape t p q k → R ≡ named_shape t p q z
 named_via R t p q k z e h = h ∙ ap (named_shape t p q) e
 
--- a loop that counts the brackets down; R is what the contract says
-module _ (R r : Res ℕ) (t : Text) (p n q : ℕ) (i : type_shape t p n q ≡ R) where
-  pub type_last : n ≤ 0 → r ≡ base_shape t p q → r ≡ R
+-- a loop that counts the brackets up to n; R is what the contract says
+module _ (R r : Res ℕ) (t : Text) (p n k q : ℕ) (i : type_shape t p (n - k) q ≡ R) where
+  pub type_last : n ≤ k → r ≡ base_shape t p q → r ≡ R
   unfolding type_shape
-  type_last h e = let z : n ≡ 0 = omega arith in e ∙ (sym (rw z) ∙ i)
+  type_last h e = let z : n - k ≡ 0 = omega arith in e ∙ (sym (rw z) ∙ i)
 
-  pub type_here : (b : Bool) → 0 < n → not b ≡ true → b ≡ eqb (get_or t q 0) 91 → r ≡ base_shape t p q → r ≡ R
+  pub type_here : (b : Bool) → k < n → not b ≡ true → b ≡ eqb (get_or t q 0) 91 → r ≡ base_shape t p q → r ≡ R
   unfolding type_shape
   type_here b h f g e =
-      let z : n ≡ suc (n - 1) = omega arith in
+      let z : n - k ≡ suc (n - (k + 1)) = omega arith in
       let w : eqb (get_or t q 0) 91 ≡ false = sym g ∙ not-true b f in
       e ∙ (sym (rw (z, w)) ∙ i)
 
-one_more : (t : Text) (p n q : ℕ) → 0 < n → eqb (get_or t q 0) 91 ≡ true → type_shape t p n q ≡ type_shape t p (n - 1) (q + 1)
+pub type_next : (R : Res ℕ) (t : Text) (p n k q : ℕ) (b : Bool) → type_shape t p (n - k) q ≡ R → k < n → not b ≡ false → b ≡ eqb (get_or t q 0) 91
+    → type_shape t p (n - (k + 1)) (q + 1) ≡ R
 unfolding type_shape
-one_more t p zero q h w = absurd (omega arith)
-one_more t p (suc m) q h w = let z : m ≡ suc m - 1 = omega arith in rw w (ap (λ (k : ℕ). type_shape t p k (q + 1)) z)
-
-pub type_next : (R : Res ℕ) (t : Text) (p n q : ℕ) (b : Bool) → type_shape t p n q ≡ R → 0 < n → not b ≡ false → b ≡ eqb (get_or t q 0) 91
-    → type_shape t p (n - 1) (q + 1) ≡ R
-type_next R t p n q b i h f g = sym (one_more t p n q h (sym g ∙ not-false b f)) ∙ i
+type_next R t p n k q b i h f g =
+    let z : n - k ≡ suc (n - (k + 1)) = omega arith in
+    let w : eqb (get_or t q 0) 91 ≡ true = sym g ∙ not-false b f in
+    sym (rw (z, w)) ∙ i
 
 pub ruleset brackets = (type_last, type_here, type_next)
 
--- a loop that reads parameters and counts n down and c up; R is what the contract says
-module _ (t : Text) (p c q : ℕ) where
-  pub params_none : (R r : Res ℕ) (n : ℕ) → params_shape t p n c q ≡ R → n ≤ 0 → r ≡ bad 7 p → r ≡ R
+-- a loop that reads parameters and counts c up to n; R is what the contract says
+module _ (t : Text) (p n c q : ℕ) (R : Res ℕ) (i : params_shape t p (n - c) c q ≡ R) where
+  pub params_none : n ≤ c → bad 7 p ≡ R
   unfolding params_shape
-  params_none R r n i h e = let z : n ≡ 0 = omega arith in e ∙ (sym (rw z) ∙ i)
+  params_none h = let z : n - c ≡ 0 = omega arith in sym (rw z) ∙ i
 
-  last : (n : ℕ) → 0 < n → eqb (get_or t q 0) 41 ≡ true → params_shape t p n c q ≡ ok c (q + 1)
-  unfolding params_shape
-  last zero h w = absurd (omega arith)
-  last (suc m) h w = rw w
+  module _ (b : Bool) (h : c < n) (g : b ≡ eqb (get_or t q 0) 41) where
+    left : n - c ≡ suc (n - (c + 1))
+    left = omega arith
 
-  another : (n : ℕ) → 0 < n → eqb (get_or t q 0) 41 ≡ false
-      → params_shape t p n c q ≡ and_then (type_shape t p max_dimensions q) λ v e. params_shape t p (n - 1) (c + 1) e
-  unfolding params_shape
-  another zero h w = absurd (omega arith)
-  another (suc m) h w =
-      let z : m ≡ suc m - 1 = omega arith in
-      rw w (ap (λ (k : ℕ). and_then (type_shape t p max_dimensions q) λ v e. params_shape t p k (c + 1) e) z)
-
-  module _ (R : Res ℕ) (n : ℕ) (i : params_shape t p n c q ≡ R) (b : Bool) (h : 0 < n) (g : b ≡ eqb (get_or t q 0) 41) where
     pub params_end : b ≡ true → ok c (q + 1) ≡ R
-    params_end f = sym (last n h (sym g ∙ f)) ∙ i
+    unfolding params_shape
+    params_end f = let w : eqb (get_or t q 0) 41 ≡ true = sym g ∙ f in sym (rw (left, w)) ∙ i
 
-    module _ (f : b ≡ false) (d : Got) (k : res d ≡ type_shape t p max_dimensions q) where
-      pub params_bad : not d.ok ≡ true → res d ≡ R
-      params_bad u =
-          t_stop (type_shape t p max_dimensions q) (λ v e. params_shape t p (n - 1) (c + 1) e) d d.val d.val k u ∙ (sym (another n h (sym g ∙ f)) ∙ i)
+    module _ (f : b ≡ false) where
+      another : (and_then (type_shape t p max_dimensions q) λ v e. params_shape t p (n - (c + 1)) (c + 1) e) ≡ R
+      unfolding params_shape
+      another = let w : eqb (get_or t q 0) 41 ≡ false = sym g ∙ f in sym (rw (left, w)) ∙ i
 
-      pub params_more : not d.ok ≡ false → params_shape t p (n - 1) (c + 1) d.at ≡ R
-      params_more u =
-          t_ok (params_shape t p (n - 1) (c + 1) d.at) (type_shape t p max_dimensions q) (λ v e. params_shape t p (n - 1) (c + 1) e) d k u refl
-          ∙ (sym (another n h (sym g ∙ f)) ∙ i)
+      pub params_bad : (r : Result (Got ℕ) Fault) (a : Fault) → IsErrAnd r (λ z. z ≡ a) → bad (number a.0) a.1 ≡ type_shape t p max_dimensions q → res r ≡ R
+      params_bad r a u k = t_stop (λ v. v) (type_shape t p max_dimensions q) (λ v e. params_shape t p (n - (c + 1)) (c + 1) e) r a u k ∙ another
+
+      pub params_more : (v e : ℕ) → ok v e ≡ type_shape t p max_dimensions q → params_shape t p (n - (c + 1)) (c + 1) e ≡ R
+      params_more v e k = t_ok _ (type_shape t p max_dimensions q) (λ v e. params_shape t p (n - (c + 1)) (c + 1) e) v e k refl ∙ another
 
 pub ruleset parameters = (params_none, params_end, params_bad, params_more)

@@ -1,24 +1,18 @@
 -- A member's access, name and descriptor as the code reads them, and the member that they and its attributes make. Assumes nothing.
-use Rattle.std.specs.Prelude.{ℕ, ◌+◌, ◌<◌, ◌≤◌, ◌≡◌, List, Bool, not, length, eqb}
-use Rattle.std.proofs.Math.Path.{refl, sym, ap}
-use Rattle.std.proofs.Common.{◌∙◌}
-use Rattle.std.proofs.Math.Bool.{true, false, cond}
-use native.Mathlib.Omega.{arith}
-use Rattle.std.proofs.Math.Dec.{ltb}
-use borrow.Author.Tests.{not-true, not-false, eq-eqb, ne_eqb, ltb-true, ltb-false, lt-ltb, le-ltb}
+use Rattle.std.specs.Prelude.{ℕ, ◌+◌, ◌<◌, ◌≤◌, ◌≡◌, List, Bool, Result, Ok, Err, length, eqb}
+use Rattle.std.proofs.Common.{◌∙◌, refl, sym, ap, true, false, cond, arith, ltb, eq-eqb, ne_eqb, ltb-true, ltb-false, lt-ltb, le-ltb}
 use Rattle.classfiles.specs.Limits.{max_parameters}
 use Rattle.texts.specs.Reading.{Res, ok, bad, and_then, u2_at, u2}
 use Rattle.texts.specs.Answers.{res_as}
 use Rattle.texts.specs.Ends.{Holds, then-holds, any-holds, cond-holds, IsU2, u2-holds}
 use Rattle.texts.specs.Names.{Text, is_init, unqualified, method_name}
 use Rattle.classfiles.specs.Descriptors.{field_type_at, method_type_at}
-use Rattle.classfiles.specs.Shapes.{Arity, arity, seen, field_shape, method_shape, field-shape, method-shape}
-use Rattle.classfiles.specs.Counted.{counts_res}
+use Rattle.classfiles.specs.Shapes.{arity, seen, field_shape, method_shape, field-shape, method-shape}
 use Rattle.classfiles.specs.Pool.{Constant, text, entry, is_utf8, utf8_index_at}
 use Rattle.classfiles.specs.Members.{Found, Body, Member, access_at, name_at, slots, method_type_ok, descriptor_at, attributes_at, member_at}
 use Rattle.classfiles.specs.Attributes.{member_of, any-then, same_then}
-use Rattle.texts.specs.declared.items.Got.{Got}
-use Rattle.classfiles.specs.declared.descriptors.Counts.{Counts}
+use Rattle.texts.specs.declared.faults.Got.{Got}
+use Rattle.texts.specs.declared.faults.Fault.{Fault}
 
 -- too many parameters, with the receiver
 unfoldable pub too_many : ℕ → ℕ → Bool
@@ -149,13 +143,11 @@ module _ (s : List ℕ) (pool : List Constant) where
   member_via r method q h = h ∙ sym (member-by method q)
 
   -- the attributes' answer, as the member's
-  pub member_last : (q : ℕ) (x : Res (Found Body)) (a : Got) (v : Found Body) → res_as a v ≡ x → res_as a (member_of s pool q v) ≡ and_then x λ body e. ok (member_of s pool q body) e
+  pub member_last : {T : Type 0} (q : ℕ) (x : Res (Found Body)) (F : T → Found Body) (r : Result (Got T) Fault) → res_as F r ≡ x
+      → res_as (λ c. member_of s pool q (F c)) r ≡ and_then x λ body e. ok (member_of s pool q body) e
   unfolding and_then
-  member_last q x a v h = rw (← h) (by a.ok)
-    where
-      by : (t : Bool) → cond t (ok (member_of s pool q v) a.at) (bad a.val a.at) ≡ and_then (cond t (ok v a.at) (bad a.val a.at)) λ body e. ok (member_of s pool q body) e
-      by true = refl
-      by false = refl
+  member_last q x F (Ok g) h = rw (← h)
+  member_last q x F (Err e) h = rw (← h)
 
 -- ---- for the code: without a sum that could wrap
 module _ (access n : ℕ) where
@@ -170,13 +162,3 @@ module _ (access n : ℕ) where
       by : (t : Bool) → ltb 15 n ≡ t → t ≡ ltb 16 (n + 1)
       by true h = let l : 15 < n = ltb-true 15 n h in sym (lt-ltb 16 (n + 1) (omega arith))
       by false h = let l : n ≤ 15 = ltb-false 15 n h in sym (le-ltb 16 (n + 1) (omega arith))
-
--- ---- what `search` follows where a method descriptor was counted
-module _ {B : Type 0} (R : Res B) (x : Res Arity) (f : Arity → ℕ → Res B) (a : Counts) (h : counts_res a ≡ x) where
-  pub c_ok : not a.ok ≡ false → R ≡ f (arity a.params a.results) a.at → R ≡ and_then x f
-  unfolding and_then
-  c_ok t p = rw (← h, not-false a.ok t) p
-
-  pub c_bad : not a.ok ≡ true → R ≡ bad a.val a.at → R ≡ and_then x f
-  unfolding and_then
-  c_bad t p = rw (← h, not-true a.ok t) p

@@ -1,25 +1,16 @@
 -- The table of a pool's tags, a word an entry, and an entry as the code holds it: what they stand for. Assumes nothing.
-use Prim.Native.Nat.{ℕ, zero, suc, ◌+◌, ◌-◌, ◌*◌, ◌/◌, ◌^◌, ◌<◌, ◌≤◌}
-use Rattle.std.specs.Prelude.{◌≡◌, Bool, true, cond, not, ltb, leb, set}
-use Rattle.std.proofs.Math.Path.{refl, sym, ap, subst}
-use Rattle.std.proofs.Common.{◌∙◌, add-one, take-suc-set, leb-true}
-use mathlib.Core.List.{List, [], ◌∷◌, ◌++◌, map}
-use Rattle.std.proofs.Math.Bool.{false}
-use native.Mathlib.Omega.{arith}
-use Rattle.std.proofs.Math.Dec.{eqb}
-use Rattle.std.proofs.Math.ListN.{length, get_or, take, drop, length-drop, drop_of_length-le, get_or-eq_default}
-use Rattle.std.proofs.Math.Seq.{take_all, take-nil}
+use Rattle.std.specs.Prelude.{◌≡◌, Bool, true, cond, ltb, leb, set, Option, Some, None}
+use Rattle.std.proofs.Common.{◌∙◌, add-one, take-suc-set, leb-true, ℕ, zero, suc, ◌+◌, ◌-◌, ◌*◌, ◌/◌, ◌^◌, ◌<◌, ◌≤◌, refl, sym, ap, List, [], ◌∷◌, ◌++◌, map, false, arith, eqb, length, get_or, take, drop, length-drop, drop_of_length-le, take_all}
+use Rattle.std.proofs.Math.ListN.{get_or-eq_default}
+use Rattle.std.proofs.Math.Seq.{take-nil}
 use Rattle.kit.specs.Bools.{not_so}
-use Rattle.kit.specs.Lists.{get_d_part}
 use Rattle.kit.specs.Scan.{all_of}
 use Rattle.kit.specs.Words.{word, put_word, words, words_at, words_put, length_words}
 use Rattle.classfiles.specs.Limits.{max_text}
 use Rattle.texts.specs.Reading.{Res, ok, bad, pre, many, num2_at, skip_at, part}
-use Rattle.texts.specs.Answers.{res, no_ok}
 use Rattle.texts.specs.Ends.{Holds, holds_of, then-holds, any-holds, cond-holds, skip_holds}
 use Rattle.classfiles.specs.Loops.{many_next, many_done}
 use Rattle.classfiles.specs.Pool.{Constant, absent, utf8, integer, class_at, fieldref, methodref, name_and_type, text_ok, utf8_at, fixed_at, entry_size, entry_at, constant_at, constants, entry, is_utf8, is_class, text_of, text, name_index, class_text, is_array_name}
-use Rattle.texts.specs.declared.items.Got.{Got}
 use Rattle.classfiles.specs.declared.pool.Span.{Span}
 use Rattle.classfiles.specs.declared.pool.Entry.{Entry}
 use Rattle.classfiles.specs.declared.pool.Entry.TheVariants.{Absent, Utf8, Integer, Class, Field, Method, NameAndType}
@@ -27,25 +18,23 @@ use Rattle.classfiles.specs.declared.pool.Entry.TheVariants.{Absent, Utf8, Integ
 unfoldable pub text_byte : List ℕ → ℕ → Bool
 text_byte s i = cond (eqb (get_or s i 0) 0) false (ltb (get_or s i 0) 128)
 
--- the constant that an entry is
-abbrev pub constant_of : List ℕ → Entry → Constant
-constant_of s Absent = absent
-constant_of s (Utf8 a n) = utf8 (part s a n)
-constant_of s (Integer v) = integer v
-constant_of s (Class i) = class_at i
-constant_of s (Field i j) = fieldref i j
-constant_of s (Method i j) = methodref i j
-constant_of s (NameAndType i j) = name_and_type i j
+-- the bytes that an entry takes, 0 where its tag doesn't say
+abbrev pub sized : Option ℕ → ℕ
+sized None = 0
+sized (Some n) = n
 
--- a text ends by `end`, so that its part may be lent
-abbrev pub Inside : ℕ → Entry → Type 0
-Inside end Absent = Unit {0}
-Inside end (Utf8 a n) = a + n ≤ end
-Inside end (Integer v) = Unit {0}
-Inside end (Class i) = Unit {0}
-Inside end (Field i j) = Unit {0}
-Inside end (Method i j) = Unit {0}
-Inside end (NameAndType i j) = Unit {0}
+pub pos_ne : (n : ℕ) → 0 < n → n ≡ 0 → ⊥
+pos_ne n h e = omega arith
+
+-- the constant that an entry is
+abbrev pub constant_of : Entry → Constant
+constant_of Absent = absent
+constant_of (Utf8 t) = utf8 t.now
+constant_of (Integer v) = integer v
+constant_of (Class i) = class_at i
+constant_of (Field i j) = fieldref i j
+constant_of (Method i j) = methodref i j
+constant_of (NameAndType i j) = name_and_type i j
 
 -- the pool whose tags stand in the table t, as many as it has words
 unfoldable pub pool_in : List ℕ → List ℕ → List Constant
@@ -129,8 +118,8 @@ entry-holds s q =
     (cond-holds (IsEntry s q) (eqb (entry_size (get_or s q 0)) 0) _ _ tt (fixed_holds s (entry_size (get_or s q 0)) q)))
     tt
 
-pub entry_val : (s : List ℕ) (q : ℕ) (a : Got) → res a ≡ entry_at s q → not a.ok ≡ false → (a.val ≡ q) × (a.at ≤ length s)
-entry_val s q a h t = holds_of (IsEntry s q) (entry_at s q) a.val a.at (entry-holds s q) (no_ok _ a a.val h t)
+pub entry_val : (s : List ℕ) (q v e : ℕ) → ok v e ≡ entry_at s q → (v ≡ q) × (e ≤ length s)
+entry_val s q v e h = holds_of (IsEntry s q) (entry_at s q) v e (entry-holds s q) (sym h)
 
 -- the table so far with one more tag
 put_more : (t : List ℕ) (k v : ℕ) → k < length t / 4 → v < 2 ^ 32 → take (k + 1) (words (put_word t k v)) ≡ take k (words t) ++ (v ∷ [])
@@ -138,15 +127,15 @@ put_more t k v h b =
     ap (take (k + 1)) (words_put t k v b) ∙ ap (λ (m : ℕ). take m (set (words t) k v)) (add-one k)
     ∙ take-suc-set (words t) k v (rw (length_words t) h)
 
-pub put_next : (s : List ℕ) (n k q : ℕ) (t u : List ℕ) (x : Res (List ℕ)) (a : Got)
-    → pre (take k (words t)) (many (entry_at s) (n - k) q) ≡ x → k < n → 4 * n ≤ length t → q < 2 ^ 32 → res a ≡ entry_at s q → not a.ok ≡ false → u ≡ put_word t k q
-    → pre (take (k + 1) (words u)) (many (entry_at s) (n - (k + 1)) a.at) ≡ x
-put_next s n k q t u x a i h l b e o z =
-    let v : a.val ≡ q = (entry_val s q a e o).0 in
-    let w : take (k + 1) (words u) ≡ take k (words t) ++ (a.val ∷ []) =
-    ap (λ (y : List ℕ). take (k + 1) (words y)) z ∙ put_more t k q (omega arith) b ∙ ap (λ (y : ℕ). take k (words t) ++ (y ∷ [])) (sym v) in
-    ap (λ (y : List ℕ). pre y (many (entry_at s) (n - (k + 1)) a.at)) w
-    ∙ many_next (entry_at s) n k q (take k (words t)) x i a a.val h e o
+pub put_next : (s : List ℕ) (n k q : ℕ) (t u : List ℕ) (x : Res (List ℕ)) (v a : ℕ)
+    → pre (take k (words t)) (many (entry_at s) (n - k) q) ≡ x → k < n → 4 * n ≤ length t → q < 2 ^ 32 → ok v a ≡ entry_at s q → u ≡ put_word t k q
+    → pre (take (k + 1) (words u)) (many (entry_at s) (n - (k + 1)) a) ≡ x
+put_next s n k q t u x v a i h l b e z =
+    let d : v ≡ q = (entry_val s q v a e).0 in
+    let w : take (k + 1) (words u) ≡ take k (words t) ++ (v ∷ []) =
+    ap (λ (y : List ℕ). take (k + 1) (words y)) z ∙ put_more t k q (omega arith) b ∙ ap (λ (y : ℕ). take k (words t) ++ (y ∷ [])) (sym d) in
+    ap (λ (y : List ℕ). pre y (many (entry_at s) (n - (k + 1)) a)) w
+    ∙ many_next (entry_at s) n k q (take k (words t)) x i h v a e
 
 pub put_done : (s : List ℕ) (n k q : ℕ) (t : List ℕ) (x : Res (List ℕ)) → pre (take k (words t)) (many (entry_at s) (n - k) q) ≡ x → n ≤ k → k ≤ n
     → ok (take n (words t)) q ≡ x
@@ -186,50 +175,42 @@ span a e = record { start = a; end = e }
 
 -- a part that is cut where the bytes end
 module _ (s : List ℕ) (a k : ℕ) where
-  pub cut_none : length s < a → IsText s (span 0 0) (part s a k)
+  pub part_none : length s < a → [] ≡ part s a k
   unfolding part
-  cut_none h =
+  part_none h =
       let l : length s ≤ a = omega arith in
       let e : drop a s ≡ [] = drop_of_length-le s l in
-      record { is = sym (ap (take k) e ∙ take-nil k); order = omega arith; inside = omega arith }
+      sym (ap (take k) e ∙ take-nil k)
+
+  rest_is : take (length s - a) (drop a s) ≡ drop a s
+  rest_is = take_all (length s - a) (drop a s) (omega (arith, length-drop a s))
+
+  pub part_rest : length (take (length s - a) (drop a s)) < k → take (length s - a) (drop a s) ≡ part s a k
+  unfolding part
+  part_rest l = rest_is ∙ sym (take_all k (drop a s) (omega (arith, ap length rest_is)))
+
+  pub part_whole : take k (take (length s - a) (drop a s)) ≡ part s a k
+  unfolding part
+  part_whole = ap (take k) rest_is
+
+  pub cut_none : length s < a → IsText s (span 0 0) (part s a k)
+  cut_none h = record { is = part_none h; order = omega arith; inside = omega arith }
 
   pub cut_short : a ≤ length s → length s - a < k → IsText s (span a (length s)) (part s a k)
-  unfolding part
-  cut_short h l = record {
-    is = take_all (length s - a) (drop a s) (omega (arith, length-drop a s)) ∙ sym (take_all k (drop a s) (omega (arith, length-drop a s)));
-    order = h;
-    inside = omega arith;
-  }
+  cut_short h l = record { is = part_rest (omega (arith, ap length rest_is, length-drop a s)); order = h; inside = omega arith }
 
   pub cut-whole : a ≤ length s → k ≤ length s - a → IsText s (span a (a + k)) (part s a k)
   unfolding part
   cut-whole h l = let z : a + k - a ≡ k = omega arith in record { is = ap (λ (j : ℕ). take j (drop a s)) z; order = omega arith; inside = omega arith }
 
--- whether it starts an array's descriptor
-module _ (s : List ℕ) (r : Span) (t : List ℕ) (h : IsText s r t) where
-  pub array_empty : r.end ≤ r.start → false ≡ is_array_name t
-  unfolding is_array_name
-  array_empty l =
-      let z : r.end - r.start ≡ 0 = omega arith in
-      ap (λ (n : ℕ). is_array_name (take n (drop r.start s))) (sym z) ∙ ap is_array_name h.is
-
-  pub array_byte : (k : ℕ) → r.start < r.end → k ≡ get_or s r.start 0 → eqb k 91 ≡ is_array_name t
-  unfolding is_array_name
-  array_byte k l e =
-      let z : r.start + 0 ≡ r.start = omega arith in
-      let w : 0 < r.end - r.start = omega arith in
-      ap (λ (m : ℕ). eqb m 91)
-      (e ∙ ap (λ (m : ℕ). get_or s m 0) (sym z) ∙ sym (get_d_part r.start (r.end - r.start) s 0 0 w) ∙ ap (λ (l : List ℕ). get_or l 0 0) h.is)
-
-module _ (s : List ℕ) (pool : List Constant) (i : ℕ) where
-  pub text_none : false ≡ is_utf8 (entry pool i) → IsText s (span 0 0) (text pool i)
+module _ (pool : List Constant) (i : ℕ) where
+  pub text_none : false ≡ is_utf8 (entry pool i) → [] ≡ text pool i
   unfolding text
-  text_none e = record { is = sym (no_text (entry pool i) e); order = omega arith; inside = omega arith }
+  text_none e = sym (no_text (entry pool i) e)
 
-  pub class_none : false ≡ is_class (entry pool i) → text_of (entry pool 0) ≡ [] → IsText s (span 0 0) (class_text pool i)
+  pub class_none : false ≡ is_class (entry pool i) → text_of (entry pool 0) ≡ [] → [] ≡ class_text pool i
   unfolding class_text text
-  class_none e z =
-      record { is = sym (ap (λ (k : ℕ). text_of (entry pool k)) (no_name (entry pool i) e) ∙ z); order = omega arith; inside = omega arith }
+  class_none e z = sym (ap (λ (k : ℕ). text_of (entry pool k)) (no_name (entry pool i) e) ∙ z)
     where
       no_name : (x : Constant) → false ≡ is_class x → name_index x ≡ 0
       no_name absent e = refl
@@ -240,9 +221,9 @@ module _ (s : List ℕ) (pool : List Constant) (i : ℕ) where
       no_name (methodref j k) e = refl
       no_name (name_and_type j k) e = refl
 
-  pub class_some : (r : Span) (name : ℕ) → name_index (entry pool i) ≡ name → IsText s r (text pool name) → IsText s r (class_text pool i)
+  pub class_some : (name : ℕ) → name_index (entry pool i) ≡ name → text pool name ≡ class_text pool i
   unfolding class_text
-  class_some r name e h = subst (λ (k : ℕ). IsText s r (text pool k)) (sym e) h
+  class_some name e = ap (text pool) (sym e)
 
 -- number 0 has no text
 pub zero-text : (s t : List ℕ) → text_of (entry_in s t 0) ≡ []

@@ -1,17 +1,13 @@
 -- A pool entry asked by its tag: what x is where the tag k stands, at q. Assumes nothing.
 use Rattle.std.specs.Prelude.{ℕ, ◌+◌, ◌/◌, ◌^◌, ◌<◌, ◌≤◌, ◌≡◌, List, Bool, cond, eqb, get_or}
-use Rattle.std.proofs.Math.Path.{refl, sym, ap}
-use Rattle.std.proofs.Common.{subst, ◌∙◌, ⊎_elim}
-use Rattle.std.proofs.Math.Bool.{true, false}
-use native.Mathlib.Omega.{arith}
-use Rattle.std.proofs.Math.ListN.{length, get_or-eq_default}
-use borrow.Author.Tests.{ne_eqb, eqb-true, eqb-false}
+use Rattle.std.proofs.Common.{◌∙◌, ⊎_elim, refl, sym, ap, true, false, arith, length, ne_eqb, eqb-true}
+use Rattle.std.proofs.Math.ListN.{get_or-eq_default}
+use Rattle.std.proofs.lemmas.Bool.{eqb-false}
 use Rattle.kit.specs.Pick.{side}
 use Rattle.kit.specs.Words.{word}
 use Rattle.texts.specs.Reading.{u2_at, u4_at, part}
 use Rattle.classfiles.specs.Pool.{Constant, absent, utf8, integer, class_at, fieldref, methodref, name_and_type, constant_at, entry, is_utf8, is_class, is_name_and_type, text_of, text, name_index}
-use Rattle.classfiles.specs.Table.{pool_in, IsText, entry_none, entry_past, entry_in_lem}
-use Rattle.classfiles.specs.declared.pool.Span.{Span}
+use Rattle.classfiles.specs.Table.{pool_in, entry_none, entry_past, entry_in_lem}
 
 -- past every byte stands no entry
 module _ (t : List ℕ) (i : ℕ) (s : List ℕ) (h : length s < 2 ^ 64) where
@@ -120,7 +116,7 @@ module _ (s : List ℕ) (q : ℕ) (x : Constant) (k : ℕ) (p : constant_at s q 
       by false t = no_pair (eqb-false k 12 t)
 
 -- the text of a Utf8
-pub text_some : (s : List ℕ) (pool : List Constant) (i q k a : ℕ) (r : Span) → constant_at s q ≡ entry pool i → k ≡ get_or s q 0 → k ≡ 1 → a ≡ u2_at s (q + 1)
-    → IsText s r (part s (q + 3) a) → IsText s r (text pool i)
+pub text_some : (s : List ℕ) (pool : List Constant) (i q k a : ℕ) → constant_at s q ≡ entry pool i → k ≡ get_or s q 0 → k ≡ 1 → a ≡ u2_at s (q + 1)
+    → part s (q + 3) a ≡ text pool i
 unfolding text
-text_some s pool i q k a r p e t h g = subst (IsText s r) (sym (ap text_of (at_utf8 s q (entry pool i) k p e a t h))) g
+text_some s pool i q k a p e t h = sym (ap text_of (at_utf8 s q (entry pool i) k p e a t h))

@@ -1,21 +1,21 @@
 // The constant pool: where each entry's tag stands goes into the lent table, a word an entry, number 0 a zero; or the first fault.
-ghost use Rattle.std.specs.Prelude.{◌≡◌, true, List, ℕ, ◌+◌, ◌-◌, ◌*◌, ◌^◌, ◌<◌, ◌≤◌, length, take};
+ghost use Rattle.std.specs.Prelude.{◌≡◌, IfOk, IfSome, List, ℕ, ◌+◌, ◌-◌, ◌*◌, ◌^◌, ◌<◌, ◌≤◌, length, take};
 ghost use Rattle.kit.specs.Words.{words};
 ghost use Rattle.texts.specs.Reading.{pre, many, part};
 ghost use Rattle.texts.specs.Answers.{res, res_as};
-ghost use Rattle.classfiles.specs.Pool.{utf8, text_ok, utf8_at, fixed_at, entry_size, entry_at, constant_at, is_utf8, is_class, is_name_and_type, text, class_text, is_array_name, utf8_index_at, class_index_at, pair_fault, name_fault, entry_fault, checked_at, tags_at, pool_at};
-ghost use Rattle.classfiles.specs.Faults.{sound, first_fault};
-ghost use Rattle.classfiles.specs.Table.{text_byte, constant_of, Inside, pool_in, entry_in, IsText};
+ghost use Rattle.classfiles.specs.Past.{past};
+ghost use Rattle.classfiles.specs.Pool.{utf8, text_ok, utf8_at, entry_size, entry_at, constant_at, is_utf8, is_class, is_name_and_type, text, class_text, is_array_name, utf8_index_at, class_index_at, pair_fault, name_fault, entry_fault, checked_at, tags_at, pool_at};
+ghost use Rattle.texts.specs.Faults.{refused};
+ghost use Rattle.classfiles.specs.Table.{text_byte, sized, constant_of, pool_in, entry_in, IsText};
 
 use crate::descriptors;
+use texts::faults::{Fault, Got, Refusal};
 use texts::items;
-use texts::items::Got;
 
-// A pool entry; a text as its start and length.
 #[derive(Clone, Copy)]
-pub enum Entry {
+pub enum Entry<'a> {
     Absent,
-    Utf8(usize, usize),
+    Utf8(&'a [u8]),
     Integer(u32),
     Class(usize),
     Field(usize, usize),
@@ -23,7 +23,7 @@ pub enum Entry {
     NameAndType(usize, usize),
 }
 
-// A part of the bundle.
+// A part of the bundle, for what keeps positions.
 #[derive(Clone, Copy)]
 pub struct Span {
     pub start: usize,
@@ -44,126 +44,88 @@ fn text_ok(s: &[u8], q: usize, n: usize) -> bool
     requires { q + n ≤ length s.now }
     ensures { result ≡ text_ok s.now q n }
 {
-    let mut i = 0;
-    while i < n {
+    for i in 0..n {
         if !text_byte(s, q + i) {
             return false;
         }
-        i += 1;
     }
     true
 }
 
-fn utf8(s: &[u8], q: usize) -> Got
+// A Utf8; the value is where its tag stands.
+fn utf8(s: &[u8], q: usize) -> Result<Got<usize>, Fault>
     requires { q < length s.now }
     ensures { res result ≡ utf8_at s.now q }
 {
-    let n = items::num2(s, s.len(), 2, q, q + 1);
-    if !n.ok {
-        return n;
-    }
-    let b = items::skip(s.len(), 2, q, n.val, n.at);
-    if !b.ok {
-        return b;
-    }
+    let n = items::num2(s, s.len(), Fault(Refusal::CutShort, q), q + 1)?;
+    let b = items::skip(s.len(), Fault(Refusal::CutShort, q), n.val, n.at)?;
     if 255 < n.val {
-        return Got {
-            ok: false,
-            val: 4,
-            at: q,
-        };
+        return Err(Fault(Refusal::Limit, q));
     }
     if text_ok(s, b.val, n.val) {
-        return Got {
-            ok: true,
-            val: q,
-            at: b.at,
-        };
+        return Ok(Got { val: q, at: b.at });
     }
-    Got {
-        ok: false,
-        val: 5,
-        at: q,
-    }
+    Err(Fault(Refusal::Constant, q))
 }
 
-fn entry_size(tag: usize) -> usize
-    ensures { result ≡ entry_size tag }
+// The bytes that an entry with this tag takes, if it is no Utf8.
+fn entry_size(tag: usize) -> Option<usize>
+    ensures { (sized result ≡ entry_size tag) × IfSome result (λ n. 0 < n) }
 {
-    if tag == 3 {
-        return 5;
+    match tag {
+        7 => Some(3),
+        3 | 9 | 10 | 12 => Some(5),
+        _ => None,
     }
-    if tag == 7 {
-        return 3;
-    }
-    if tag == 9 {
-        return 5;
-    }
-    if tag == 10 {
-        return 5;
-    }
-    if tag == 12 {
-        return 5;
-    }
-    0
 }
 
-fn fixed(s: &[u8], size: usize, q: usize) -> Got
-    ensures { res result ≡ fixed_at s.now size q }
-{
-    items::skip(s.len(), 2, q, size, q)
-}
-
-fn entry_at(s: &[u8], q: usize) -> Got
+// The value is where its tag stands.
+fn entry_at(s: &[u8], q: usize) -> Result<Got<usize>, Fault>
     ensures { res result ≡ entry_at s.now q }
 {
-    if q < s.len() {
-        let tag = kit::byte(s, q);
-        if tag == 1 {
-            return utf8(s, q);
-        }
-        let size = entry_size(tag);
-        if size == 0 {
-            return Got {
-                ok: false,
-                val: 5,
-                at: q,
-            };
-        }
-        return fixed(s, size, q);
+    if s.len() <= q {
+        return Err(Fault(Refusal::CutShort, q));
     }
-    Got {
-        ok: false,
-        val: 2,
-        at: q,
+    let tag = kit::byte(s, q);
+    if tag == 1 {
+        return utf8(s, q);
     }
+    if let Some(size) = entry_size(tag) {
+        return items::skip(s.len(), Fault(Refusal::CutShort, q), size, q);
+    }
+    Err(Fault(Refusal::Constant, q))
 }
 
-// The entries 1 .. n - 1.
-fn entries(s: &[u8], from: usize, n: usize, t: &mut [u8]) -> Got
+// The entries 1 .. n - 1; the position past them.
+fn entries(s: &[u8], from: usize, n: usize, t: &mut [u8]) -> Result<usize, Fault>
     requires { (length s.now ≤ 65536) × (from ≤ length s.now) × (1 ≤ n) × (4 * n ≤ length t.old) }
-    ensures { res_as result (take n (words t.new)) ≡ pre (take 1 (words t.old)) (many (entry_at s.now) (n - 1) from) }
+    ensures { past (take n (words t.new)) result ≡ pre (take 1 (words t.old)) (many (entry_at s.now) (n - 1) from) }
 {
     let mut q = from;
-    let mut k = 1;
-    while k < n {
-        let g = entry_at(s, q);
-        if !g.ok {
-            return g;
-        }
+    for k in 1..n {
+        let g = entry_at(s, q)?;
         kit::put_word(t, k, q as u32);
         q = g.at;
-        k += 1;
     }
-    Got {
-        ok: true,
-        val: n,
-        at: q,
-    }
+    Ok(q)
 }
 
 // n bytes from `from` on, cut where the bundle ends.
-pub fn cut(s: &[u8], from: usize, n: usize) -> Span
+pub fn cut(s: &[u8], from: usize, n: usize) -> &[u8]
+    ensures { result.now ≡ part s.now from n }
+{
+    if s.len() < from {
+        return &s[0..0];
+    }
+    let rest = &s[from..];
+    if rest.len() < n {
+        return rest;
+    }
+    &rest[..n]
+}
+
+// Where those bytes stand: a method's site is kept as positions.
+pub fn cut_span(s: &[u8], from: usize, n: usize) -> Span
     ensures { IsText s.now result (part s.now from n) }
 {
     if s.len() < from {
@@ -181,25 +143,15 @@ pub fn cut(s: &[u8], from: usize, n: usize) -> Span
     }
 }
 
-fn text_part(s: &[u8], from: usize, n: usize) -> Entry
-    ensures { (constant_of s.now result ≡ utf8 (part s.now from n)) × Inside (length s.now) result }
-{
-    let t = cut(s, from, n);
-    let a = t.start;
-    let e = t.end;
-    let size = e - a;
-    Entry::Utf8(a, size)
-}
-
 // The entry whose tag stands at `tag`.
-fn decode(s: &[u8], tag: u32) -> Entry
-    ensures { (constant_of s.now result ≡ constant_at s.now tag) × Inside (length s.now) result }
+fn decode(s: &[u8], tag: u32) -> Entry<'_>
+    ensures { constant_of result ≡ constant_at s.now tag }
 {
     let q = tag as usize;
     let kind = kit::byte(s, q);
     let a = items::u2_at(s, q + 1);
     if kind == 1 {
-        return text_part(s, q + 3, a);
+        return Entry::Utf8(cut(s, q + 3, a));
     }
     if kind == 3 {
         return Entry::Integer(items::u4_at(s, q + 1) as u32);
@@ -221,8 +173,8 @@ fn decode(s: &[u8], tag: u32) -> Entry
 }
 
 // Entry i of the pool whose tags stand there.
-pub fn entry_of(s: &[u8], tags: &[u8], i: usize) -> Entry
-    ensures { (constant_of s.now result ≡ entry_in s.now tags.now i) × Inside (length s.now) result }
+pub fn entry_of<'a>(s: &'a [u8], tags: &[u8], i: usize) -> Entry<'a>
+    ensures { constant_of result ≡ entry_in s.now tags.now i }
 {
     if i == 0 {
         return Entry::Absent;
@@ -233,7 +185,7 @@ pub fn entry_of(s: &[u8], tags: &[u8], i: usize) -> Entry
     Entry::Absent
 }
 
-// Where the tag of entry i stands, past every byte where there is no such entry.
+// Where the tag of entry i stands, past every byte where there is no such entry: a byte there is 0, so that callers test the tag alone.
 fn place(tags: &[u8], i: usize) -> usize
     ensures { (s : List ℕ) → length s < 2 ^ 64 → constant_at s result ≡ entry_in s tags.now i }
 {
@@ -265,237 +217,138 @@ pub fn is_name_and_type(s: &[u8], tags: &[u8], i: usize) -> bool
 }
 
 // The text that entry i is, empty where it is none.
-pub fn text_of(s: &[u8], tags: &[u8], i: usize) -> Span
-    ensures { IsText s.now result (text (pool_in s.now tags.now) i) }
+pub fn text_of<'a>(s: &'a [u8], tags: &[u8], i: usize) -> &'a [u8]
+    ensures { result.now ≡ text (pool_in s.now tags.now) i }
 {
     let q = place(tags, i);
     if kit::byte(s, q) == 1 {
         return cut(s, q + 3, items::u2_at(s, q + 1));
     }
-    Span { start: 0, end: 0 }
+    &s[0..0]
 }
 
 // The text that the Class i names, empty where it is no Class.
-pub fn class_text_of(s: &[u8], tags: &[u8], i: usize) -> Span
-    ensures { IsText s.now result (class_text (pool_in s.now tags.now) i) }
+pub fn class_text_of<'a>(s: &'a [u8], tags: &[u8], i: usize) -> &'a [u8]
+    ensures { result.now ≡ class_text (pool_in s.now tags.now) i }
 {
     let q = place(tags, i);
     if kit::byte(s, q) == 7 {
         return text_of(s, tags, items::u2_at(s, q + 1));
     }
-    Span { start: 0, end: 0 }
+    &s[0..0]
 }
 
 // A number that has to name a Utf8.
-pub fn utf8_index(s: &[u8], tags: &[u8], q: usize) -> Got
+pub fn utf8_index(s: &[u8], tags: &[u8], q: usize) -> Result<Got<usize>, Fault>
     ensures { res result ≡ utf8_index_at s.now (pool_in s.now tags.now) q }
 {
-    let i = items::u2(s, q);
-    if !i.ok {
-        return i;
-    }
+    let i = items::u2(s, q)?;
     if is_utf8(s, tags, i.val) {
-        return Got {
-            ok: true,
-            val: i.val,
-            at: i.at,
-        };
+        return Ok(i);
     }
-    Got {
-        ok: false,
-        val: 5,
-        at: q,
-    }
+    Err(Fault(Refusal::Constant, q))
 }
 
 // Whether the text that entry i is starts an array's descriptor.
 fn is_array_name(s: &[u8], tags: &[u8], i: usize) -> bool
     ensures { result ≡ is_array_name (text (pool_in s.now tags.now) i) }
 {
-    let t = text_of(s, tags, i);
-    let a = t.start;
-    let e = t.end;
-    if a < e {
-        return kit::byte(s, a) == 91;
-    }
-    false
+    kit::byte(text_of(s, tags, i), 0) == 91
 }
 
 // this_class or super_class, whose number i stands at q and ends at e: a Class, and no array.
-pub fn class_index(s: &[u8], tags: &[u8], q: usize, i: usize, e: usize) -> Got
+pub fn class_index(s: &[u8], tags: &[u8], q: usize, i: usize, e: usize) -> Result<Got<usize>, Fault>
     ensures { res result ≡ class_index_at s.now (pool_in s.now tags.now) q i e }
 {
     let p = place(tags, i);
     if kit::byte(s, p) != 7 {
-        return Got {
-            ok: false,
-            val: 5,
-            at: q,
-        };
+        return Err(Fault(Refusal::Constant, q));
     }
     if is_array_name(s, tags, items::u2_at(s, p + 1)) {
-        return Got {
-            ok: false,
-            val: 7,
-            at: q,
-        };
+        return Err(Fault(Refusal::Malformed, q));
     }
-    Got {
-        ok: true,
-        val: i,
-        at: e,
-    }
-}
-
-// A Fieldref or Methodref: a Class and a NameAndType.
-fn member_fault(s: &[u8], tags: &[u8], i: usize, j: usize) -> usize
-    ensures { result ≡ pair_fault (is_class (entry_in s.now tags.now i)) (is_name_and_type (entry_in s.now tags.now j)) }
-{
-    if !is_class(s, tags, i) {
-        return 5;
-    }
-    if !is_name_and_type(s, tags, j) {
-        return 5;
-    }
-    0
-}
-
-// A NameAndType: two texts.
-fn texts_fault(s: &[u8], tags: &[u8], i: usize, j: usize) -> usize
-    ensures { result ≡ pair_fault (is_utf8 (entry_in s.now tags.now i)) (is_utf8 (entry_in s.now tags.now j)) }
-{
-    if !is_utf8(s, tags, i) {
-        return 5;
-    }
-    if !is_utf8(s, tags, j) {
-        return 5;
-    }
-    0
+    Ok(Got { val: i, at: e })
 }
 
 // The entries 1 .. n - 1 behind a zero for number 0.
-fn all_tags(s: &[u8], from: usize, n: usize, t: &mut [u8]) -> Got
+fn all_tags(s: &[u8], from: usize, n: usize, t: &mut [u8]) -> Result<usize, Fault>
     requires { (length s.now ≤ 65536) × (from ≤ length s.now) × (1 ≤ n) × (4 * n ≤ length t.old) }
-    ensures { res_as result (take n (words t.new)) ≡ tags_at s.now n from }
+    ensures { past (take n (words t.new)) result ≡ tags_at s.now n from }
 {
     kit::put_word(t, 0, 0);
     entries(s, from, n, t)
 }
 
-// The text that a Class names.
-fn name_fault(s: &[u8], tags: &[u8], i: usize) -> usize
-    ensures { result ≡ name_fault (pool_in s.now tags.now) i }
+// What is wrong with a Class that names entry i.
+fn name_fault(s: &[u8], tags: &[u8], i: usize) -> Option<Refusal>
+    ensures { refused result ≡ name_fault (pool_in s.now tags.now) i }
 {
     let q = place(tags, i);
     if kit::byte(s, q) != 1 {
-        return 5;
+        return Some(Refusal::Constant);
     }
-    let t = cut(s, q + 3, items::u2_at(s, q + 1));
-    let a = t.start;
-    let e = t.end;
-    let g = descriptors::class_type(&s[a..e], 0);
-    if g.ok {
-        return 0;
+    match descriptors::class_type(cut(s, q + 3, items::u2_at(s, q + 1)), 0) {
+        Ok(_) => None,
+        Err(fault) => Some(fault.0),
     }
-    g.val
 }
 
-fn entry_fault(s: &[u8], tags: &[u8], i: usize) -> usize
-    ensures { result ≡ entry_fault (pool_in s.now tags.now) i }
+// What is wrong with an entry that names two, of which each is of its kind or not.
+fn pair_fault(first: bool, second: bool) -> Option<Refusal>
+    ensures { refused result ≡ pair_fault first second }
+{
+    if first && second {
+        return None;
+    }
+    Some(Refusal::Constant)
+}
+
+// What is wrong with entry i; its tag alone is asked, so that no text is looked up for it.
+fn entry_fault(s: &[u8], tags: &[u8], i: usize) -> Option<Refusal>
+    ensures { refused result ≡ entry_fault (pool_in s.now tags.now) i }
 {
     let q = place(tags, i);
     let kind = kit::byte(s, q);
     if kind == 7 {
         return name_fault(s, tags, items::u2_at(s, q + 1));
     }
-    if kind == 9 {
-        return member_fault(s, tags, items::u2_at(s, q + 1), items::u2_at(s, q + 3));
-    }
-    if kind == 10 {
-        return member_fault(s, tags, items::u2_at(s, q + 1), items::u2_at(s, q + 3));
+    if kind == 9 || kind == 10 {
+        let class = is_class(s, tags, items::u2_at(s, q + 1));
+        return pair_fault(class, is_name_and_type(s, tags, items::u2_at(s, q + 3)));
     }
     if kind == 12 {
-        return texts_fault(s, tags, items::u2_at(s, q + 1), items::u2_at(s, q + 3));
+        let name = is_utf8(s, tags, items::u2_at(s, q + 1));
+        return pair_fault(name, is_utf8(s, tags, items::u2_at(s, q + 3)));
     }
-    0
-}
-
-fn sound(s: &[u8], tags: &[u8], i: usize) -> bool
-    ensures { result ≡ sound (pool_in s.now tags.now) i }
-{
-    entry_fault(s, tags, i) == 0
-}
-
-// The first entry with a fault, or the count.
-fn first_fault(s: &[u8], tags: &[u8]) -> usize
-    ensures { result ≡ first_fault (pool_in s.now tags.now) }
-{
-    let n = tags.len() / 4;
-    let mut i = 0;
-    while i < n {
-        if !sound(s, tags, i) {
-            return i;
-        }
-        i += 1;
-    }
-    i
+    None
 }
 
 // The pool that is read and ends at `at`: its indices and the names of its classes.
-fn checked(s: &[u8], tags: &[u8], at: usize) -> Got
-    ensures { res_as result (pool_in s.now tags.now) ≡ checked_at (words tags.now) (pool_in s.now tags.now) at }
+fn checked(s: &[u8], tags: &[u8], at: usize) -> Result<usize, Fault>
+    ensures { past (pool_in s.now tags.now) result ≡ checked_at (words tags.now) (pool_in s.now tags.now) at }
 {
     let n = tags.len() / 4;
-    let k = first_fault(s, tags);
-    if k < n {
-        return Got {
-            ok: false,
-            val: entry_fault(s, tags, k),
-            at: kit::word(tags, k) as usize,
-        };
+    for k in 0..n {
+        if let Some(refusal) = entry_fault(s, tags, k) {
+            return Err(Fault(refusal, kit::word(tags, k) as usize));
+        }
     }
-    Got {
-        ok: true,
-        val: n,
-        at,
-    }
+    Ok(at)
 }
 
 // The pool at q; t gets its table, as many words as its count, which is the answer's value.
-pub fn pool(s: &[u8], q: usize, t: &mut [u8]) -> Got
+pub fn pool(s: &[u8], q: usize, t: &mut [u8]) -> Result<Got<usize>, Fault>
     requires { (length s.now ≤ 65536) × (4096 ≤ length t.old) }
-    ensures { (res_as result (pool_in s.now (take (4 * result.val) t.new)) ≡ pool_at s.now q) × (result.ok ≡ true → result.val ≤ 1024) }
+    ensures { (res_as (λ n. pool_in s.now (take (4 * n) t.new)) result ≡ pool_at s.now q) × IfOk result (λ g. g.val ≤ 1024) }
 {
-    let n = items::u2(s, q);
-    if !n.ok {
-        return n;
-    }
+    let n = items::u2(s, q)?;
     if n.val == 0 {
-        return Got {
-            ok: false,
-            val: 5,
-            at: q,
-        };
+        return Err(Fault(Refusal::Constant, q));
     }
     if 1024 < n.val {
-        return Got {
-            ok: false,
-            val: 4,
-            at: q,
-        };
+        return Err(Fault(Refusal::Limit, q));
     }
-    let g = all_tags(s, n.at, n.val, t);
-    if !g.ok {
-        return g;
-    }
-    let e = 4 * n.val;
-    let c = checked(s, &t[0..e], g.at);
-    if !c.ok {
-        return c;
-    }
-    Got {
-        ok: true,
-        val: n.val,
-        at: c.at,
-    }
+    let z = all_tags(s, n.at, n.val, t)?;
+    let at = checked(s, &t[..4 * n.val], z)?;
+    Ok(Got { val: n.val, at })
 }

@@ -2,43 +2,21 @@
 // by tabs.
 #![tactic(auto)]
 
-ghost use Rattle.std.specs.Prelude.{◌≤◌, length, IfOk};
-
+use inputs::read_file;
 use machine::run::{self, Told};
-use std::io::Read;
+use std::io;
 use std::rt::Files;
-use std::{fs, io};
 
 // The value with its sign.
 fn print_told(out: &impl Print, what: &str, r: Told) -> io::Result<()> {
-    let refusal = r.refusal;
-    let end = r.ran.end;
-    let value = r.ran.value.cast_signed();
-    let count = r.ran.count;
-    let used = r.ran.used;
-    println!(out; "{what}\t{refusal}\t{end}\t{value}\t{count}\t{used}")
-}
-
-// Reads until the buffer is full or the input ends.
-fn read_full(input: &mut impl Read, buf: &mut [u8]) -> io::Result<usize>
-    ensures { IfOk result (λ n. n ≤ length buf.new) }
-{
-    let mut done = 0;
-    while done < buf.len() {
-        let n = input.read(&mut buf[done..])?;
-        if n == 0 {
-            break;
+    match r {
+        Ok(q) => {
+            let end = q.end_number();
+            let value = q.value().cast_signed();
+            println!(out; "{what}\t0\t{end}\t{value}\t{}\t{}", q.count, q.used)
         }
-        done += n;
+        Err(e) => println!(out; "{what}\t{}\t0\t0\t0\t0", e.number()),
     }
-    Ok(done)
-}
-
-fn read_file(files: &impl Files, path: &str, bundle: &mut [u8]) -> io::Result<usize>
-    ensures { IfOk result (λ n. n ≤ length bundle.new) }
-{
-    let mut file = fs::open(files, path)?;
-    read_full(&mut file, bundle)
 }
 
 // Method 0 of class 0 of the bundle.
@@ -69,7 +47,7 @@ fn show(
     budget: u32,
 ) -> io::Result<()> {
     let mut bundle = [0u8; 4096];
-    match read_file(rt, path, &mut bundle) {
+    match read_file(rt, path.as_bytes(), &mut bundle) {
         Ok(n) => print_told(rt, what, run_first(&bundle[..n], args, budget)),
         Err(e) => eprintln!(rt; "{path}: {e}"),
     }

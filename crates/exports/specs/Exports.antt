@@ -1,11 +1,10 @@
 -- The export of a run: the refusal, everything lent, and the result in bytes. Assumes nothing.
-use Rattle.std.specs.Prelude.{ℕ, ◌+◌, ◌*◌, ◌/◌, ◌%◌, ◌^◌, ◌≡◌, refl, cond, List, [], ◌∷◌, ◌++◌, eqb, length, get_or, replicate}
+use Rattle.std.specs.Prelude.{Ok, Err, ℕ, ◌+◌, ◌*◌, ◌/◌, ◌%◌, ◌^◌, ◌≡◌, refl, cond, List, [], ◌∷◌, ◌++◌, eqb, length, get_or, replicate}
 use Rattle.std.proofs.Common.{sym, ap, ◌∙◌, arith, eq-eqb, ne_eqb}
 use Rattle.kit.specs.Words.{put_word}
 use Rattle.reader.specs.Outlet.{four_bytes, in_bytes, result_bytes, result_size}
 use Rattle.plain.specs.Run.{Lent, answer_numbers, run_of}
-use Rattle.machine.specs.Outcomes.{told_numbers, IsRun}
-use Rattle.machine.specs.declared.run.Told.{Told}
+use Rattle.machine.specs.Outcomes.{Told, refusal_number, told_numbers, IsRun}
 
 pub record RanExport : Type 0 where
   pub code : ℕ
@@ -14,6 +13,11 @@ pub record RanExport : Type 0 where
 
 abbrev pub ran_export : ℕ → Lent → List ℕ → RanExport
 ran_export n L o = record { code = n; lent = L; result = o }
+
+-- the refusal, 0 for none
+abbrev pub refusal_of : Told → ℕ
+refusal_of (Ok q) = 0
+refusal_of (Err e) = refusal_number e
 
 -- sixteen words: nine numbers, then zeros
 unfoldable pub run_bytes : List ℕ → List ℕ
@@ -70,11 +74,15 @@ unfolding run_export
 wrong_result b L i j args budget o h = rw (ne_eqb (length o) result_size h)
 
 pub right_result : (b : List ℕ) (L : Lent) (i j : ℕ) (args : List ℕ) (budget : ℕ) (o v : List ℕ) (r : Told) (M : Lent) → length o ≡ result_size → IsRun b L i j args budget r M → v ≡ run_bytes (told_numbers r)
-    → ran_export r.refusal M v ≡ run_export b L i j args budget o
+    → (n : ℕ) → n ≡ refusal_of r → ran_export n M v ≡ run_export b L i j args budget o
 unfolding run_export
-right_result b L i j args budget o v r M h x e =
+right_result b L i j args budget o v r M h x e n f =
     rw (eq-eqb (length o) result_size h)
-    (same (ap (λ (l : List ℕ). get_or l 0 0) x.says) x.leaves (e ∙ ap run_bytes x.says))
+    (same (f ∙ first r ∙ ap (λ (l : List ℕ). get_or l 0 0) x.says) x.leaves (e ∙ ap run_bytes x.says))
   where
     same : {n n' : ℕ} {K K' : Lent} {u u' : List ℕ} → n ≡ n' → K ≡ K' → u ≡ u' → ran_export n K u ≡ ran_export n' K' u'
     same p q m = λ k. record { code = p k; lent = q k; result = m k }
+
+    first : (r : Told) → refusal_of r ≡ get_or (told_numbers r) 0 0
+    first (Ok q) = refl
+    first (Err e) = refl

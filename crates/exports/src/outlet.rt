@@ -2,11 +2,11 @@
 ghost use Rattle.std.specs.Prelude.{◌≡◌, ◌%◌, ◌^◌, length};
 ghost use Rattle.reader.specs.Outlet.{result_size, exported};
 ghost use Rattle.shaping.specs.Verified.{verify_export};
-ghost use Rattle.machine.specs.Outcomes.{lent, told_numbers};
-ghost use Rattle.exports.specs.Exports.{run_bytes, ran_export, run_export};
+ghost use Rattle.machine.specs.Outcomes.{lent, nine, told_numbers};
+ghost use Rattle.exports.specs.Exports.{refusal_of, run_bytes, ran_export, run_export};
 
 use machine::run::{self, Told};
-use reader::outlet;
+use reader::outlet::{self, Answer};
 use verifier::verify;
 
 fn low(n: usize) -> u32
@@ -15,25 +15,43 @@ fn low(n: usize) -> u32
     (n % 4294967296) as u32
 }
 
-// The answer's nine numbers and seven zeros as words of the result.
-fn put_told(res: &mut [u8], r: Told)
+// Nine numbers and seven zeros as words of the result.
+fn put_nine(res: &mut [u8], refusal: usize, end: u32, value: u32, count: u32, used: u32, v: Answer)
     requires { length res.old ≡ result_size }
-    ensures { res.new ≡ run_bytes (told_numbers r) }
+    ensures { res.new ≡ run_bytes (nine refusal end value count used v) }
 {
-    let q = r.ran;
-    let v = r.verdict;
-    outlet::put_result(
-        res,
-        r.refusal,
-        q.end as usize,
-        q.value as usize,
-        q.count as usize,
-    );
-    kit::put_word(res, 4, q.used);
+    outlet::put_result(res, refusal, end as usize, value as usize, count as usize);
+    kit::put_word(res, 4, used);
     kit::put_word(res, 5, low(v.number));
     kit::put_word(res, 6, low(v.class));
     kit::put_word(res, 7, low(v.method));
     kit::put_word(res, 8, low(v.place));
+}
+
+// The answer, and its refusal: 0 for none.
+fn put_told(res: &mut [u8], r: Told) -> u32
+    requires { length res.old ≡ result_size }
+    ensures { (res.new ≡ run_bytes (told_numbers r)) × (result ≡ refusal_of r) }
+{
+    match r {
+        Ok(q) => {
+            put_nine(
+                res,
+                0,
+                q.end_number(),
+                q.value(),
+                q.count,
+                q.used,
+                run::no_verdict(),
+            );
+            0
+        }
+        Err(e) => {
+            let code = e.number();
+            put_nine(res, code as usize, 0, 0, 0, 0, e.verdict());
+            code
+        }
+    }
 }
 
 #[unsafe(no_mangle)]
@@ -57,9 +75,7 @@ pub extern "C" fn flosquedo_run(
     let a = run::run(
         bundle, scratch, heap, slots, tags, class, method, args, budget,
     );
-    let code = a.refusal;
-    put_told(res, a);
-    code as u32
+    put_told(res, a)
 }
 
 #[unsafe(no_mangle)]

@@ -1,7 +1,7 @@
 -- A list of labelled claims and its ruling, the first that fails; and the code's number for it, 0 where none does.
 -- Assumes nothing.
 use Prim.Native.Nat.{ℕ, zero, suc, ◌<◌}
-use Rattle.std.specs.Prelude.{◌≡◌, Bool, cond, not, eqb, T, length, get_or}
+use Rattle.std.specs.Prelude.{◌≡◌, Result, Ok, Err, IsErrAnd, Bool, cond, not, eqb, T, length, get_or}
 use Rattle.std.proofs.Math.Path.{refl, ap}
 use Rattle.std.proofs.Common.{sym, ◌∙◌, le_of_suc-le-suc, arith, eq-eqb, ne_eqb, eqb-true, lt-ltb, le-ltb, le-leb}
 use Rattle.std.proofs.Math.Bool.{true, false}
@@ -250,5 +250,57 @@ module _ (r : ℕ) (cs : List (Claim ℕ)) where
 
 pub nothing : (r : ℕ) → r ≡ 0 → is r ≡ verdict []
 nothing r e = is_zero r e ∙ sym verdict_none
+
+-- What a check answers, its errors under their labels: it passes, or fails with the error's label.
+abbrev pub ruled : {A E K : Type 0} → (E → K) → Result A E → Ruling K
+ruled f (Ok a) = pass
+ruled f (Err e) = fail (f e)
+
+-- A chain of `?` is a list of claims: what passes goes on, and the first error is handed on.
+module _ {K : Type 0} (R : Ruling K) where
+  pub then_on : (u v : Ruling K) → pass ≡ u → R ≡ v → R ≡ then u v
+  then_on u v h p = p ∙ sym (pass_then u v (sym h))
+
+  pub claim_on : (k : K) (t : Bool) (cs : List (Claim K)) → pass ≡ verdict (claim k t ∷ []) → R ≡ verdict cs → R ≡ verdict (claim k t ∷ cs)
+  claim_on k t cs h p = then_on _ _ h p ∙ sym (verdict-append (claim k t ∷ []) cs)
+
+  pub claims_on : (cs ds : List (Claim K)) → pass ≡ verdict cs → R ≡ verdict ds → R ≡ verdict (cs ++ ds)
+  claims_on cs ds h p = then_on _ _ h p ∙ sym (verdict-append cs ds)
+
+  pub claim_holds : (k : K) (t : Bool) (cs : List (Claim K)) → t ≡ true → R ≡ verdict cs → R ≡ verdict (claim k t ∷ cs)
+  claim_holds k t cs e p = p ∙ sym (verdict_yes k t cs e)
+
+  pub claim_holds_by : (k : K) (q t : Bool) (cs : List (Claim K)) → q ≡ true → q ≡ t → R ≡ verdict cs → R ≡ verdict (claim k t ∷ cs)
+  claim_holds_by k q t cs e s p = claim_holds k t cs (sym s ∙ e) p
+
+module _ {K : Type 0} (k : K) (cs : List (Claim K)) where
+  pub claim_fails : (t : Bool) → t ≡ false → fail k ≡ verdict (claim k t ∷ cs)
+  claim_fails t e = sym (verdict_no k t cs e)
+
+  pub claim_fails_by : (q t : Bool) → q ≡ false → q ≡ t → fail k ≡ verdict (claim k t ∷ cs)
+  claim_fails_by q t e s = claim_fails t (sym s ∙ e)
+
+-- the error that `?` hands on
+module _ {A E K : Type 0} (f : E → K) (r : Result A E) (e : E) (p : IsErrAnd r (λ z. z ≡ e)) where
+  pub handed : ruled f r ≡ fail (f e)
+  handed = go r p
+    where
+      go : (q : Result A E) → IsErrAnd q (λ z. z ≡ e) → ruled f q ≡ fail (f e)
+      go (Ok u) h = absurd h
+      go (Err z) h = ap (λ (x : E). fail (f x)) h
+
+  pub then_off : (u v : Ruling K) → fail (f e) ≡ u → ruled f r ≡ then u v
+  then_off u v h = handed ∙ sym (fail_then u v (f e) (sym h))
+
+  pub claim_off : (k : K) (t : Bool) (cs : List (Claim K)) → fail (f e) ≡ verdict (claim k t ∷ []) → ruled f r ≡ verdict (claim k t ∷ cs)
+  claim_off k t cs h = then_off _ _ h ∙ sym (verdict-append (claim k t ∷ []) cs)
+
+  pub claims_off : (cs ds : List (Claim K)) → fail (f e) ≡ verdict cs → ruled f r ≡ verdict (cs ++ ds)
+  claims_off cs ds h = then_off _ _ h ∙ sym (verdict-append cs ds)
+
+pub none_claimed : {K : Type 0} → pass ≡ verdict {K = K} []
+none_claimed = sym verdict_none
+
+pub ruleset rulings = (then_on, then_off, claim_on, claim_off, claims_on, claims_off, claim_holds, claim_holds_by, claim_fails, claim_fails_by, none_claimed, same, eq-eqb, ne_eqb, lt-ltb, le-ltb, le-leb, lt-leb)
 
 pub ruleset claims = (one, many, holds, holds_by, holds_not, fails, fails_by, fails_not, nothing, first_zero, first-not, pos_eqb, same, eq-eqb, ne_eqb, lt-ltb, le-ltb, le-leb, lt-leb)

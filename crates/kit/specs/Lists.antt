@@ -7,6 +7,7 @@ use Rattle.std.proofs.lemmas.List.{length-replicate, drop-set-add, set_at}
 use Rattle.std.proofs.Math.ListN.{get_or-append}
 use Rattle.std.proofs.Math.Seq.{take-append-add, drop-append-add, take-nil}
 use Rattle.std.proofs.lemmas.Bool.{eqb-false}
+use Rattle.std.specs.Str.{bytes_eq}
 use Rattle.kit.specs.Bools.{both_left, both_right, both, not_so, same_truth, T_false, T_true}
 use Rattle.kit.specs.Scan.{all_of, all_none, all_cons, all_same, alls}
 
@@ -25,6 +26,14 @@ eq_list_true (x ∷ xs) (y ∷ ys) e =
     let p : x ≡ y = eqb-true x y (both_left (eqb x y) (eq_list xs ys) e) in
     let q : xs ≡ ys = eq_list_true xs ys (both_right (eqb x y) (eq_list xs ys) e) in
     cc
+
+-- what `==` of two slices of bytes gives
+pub bytes_eq_list : (s t : List ℕ) → bytes_eq s t ≡ eq_list s t
+unfolding eq_list
+bytes_eq_list [] [] = refl
+bytes_eq_list [] (y ∷ ys) = refl
+bytes_eq_list (x ∷ xs) [] = refl
+bytes_eq_list (x ∷ xs) (y ∷ ys) = ap (λ (b : Bool). eqb x y && b) (bytes_eq_list xs ys)
 
 pub eq_list_refl : (s : List ℕ) → eq_list s s ≡ true
 unfolding eq_list

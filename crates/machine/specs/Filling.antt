@@ -1,16 +1,15 @@
 -- The table of virtual calls as it is filled, word after word. Assumes nothing.
-use Rattle.std.specs.Prelude.{ℕ, ◌+◌, ◌-◌, ◌*◌, ◌/◌, ◌%◌, ◌^◌, ◌<◌, ◌≤◌, ◌≡◌, refl, Bool, true, false, not, List, ◌⊎◌, length, take, drop}
+use Rattle.std.specs.Prelude.{Option, Some, None, IfSome, ℕ, ◌+◌, ◌-◌, ◌*◌, ◌/◌, ◌%◌, ◌^◌, ◌<◌, ◌≤◌, ◌≡◌, refl, Bool, true, false, not, List, ◌⊎◌, length, take}
 use Rattle.std.proofs.Common.{sym, ap, subst, ◌∙◌, inl, inr, arith, ne_eqb, length-take, take-take, get_or-take}
-use Rattle.std.proofs.lemmas.Bool.{not-true, not-false}
+use Rattle.std.proofs.lemmas.Bool.{not-true}
 use Rattle.kit.specs.Bools.{not_so}
 use Rattle.kit.specs.Pick.{side}
 use Rattle.kit.specs.Words.{word, put_word, word_same, word_other, word-take}
 use Rattle.reader.specs.BuiltIns.{first_class}
 use Rattle.classfiles.specs.Blocks.{block_size, classes_in}
 use Rattle.classfiles.specs.Bundle.{ClassFile}
-use Rattle.classfiles.specs.Table.{IsText}
-use Rattle.texts.specs.Names.{is_init}
-use Rattle.reader.specs.Program.{Signature, signature, method, program_of, below, method_sigs, spot, lookup}
+use Rattle.texts.specs.Names.{Text, is_init}
+use Rattle.reader.specs.Program.{Signature, signature, method, program_of, below, method_sigs, nowhere, spot, lookup}
 use Rattle.reader.specs.Linked.{parents_at, files_in}
 use Rattle.reader.specs.Lookup.{hit_of, class-count}
 use Rattle.reader.specs.MemberRows.{block_at, row_count, row_sig, sig_by}
@@ -18,7 +17,6 @@ use Rattle.reader.specs.MemberAt.{method-sig}
 use Rattle.reader.specs.Whole.{Tables}
 use Rattle.reader.specs.Prints.{print_of, prints_end, prints_word, word_of, print_texts, same_block, PrintedAt, Printed, FewRows, AllPrinted}
 use Rattle.reader.specs.declared.lookup.Hit.{Hit}
-use Rattle.classfiles.specs.declared.pool.Span.{Span}
 use Rattle.rules.specs.Ancestry.{lineage, below_lineage}
 use Rattle.shaping.specs.Resolving.{seek-fits}
 use Rattle.shaping.specs.Kept.{tables_kept}
@@ -88,12 +86,12 @@ few_rows b n t h = (h.prepared.tables.most, omega (arith, h.long), record { at =
 
 -- ---- one word
 pub record SmallHit (h : Hit) : Type 0 where
-  pub class : h.found ≡ true → h.class < 32
-  pub index : h.found ≡ true → h.index < 64
+  pub class : h.class < 32
+  pub index : h.index < 64
 
-pub packed_none : (h : Hit) → not h.found ≡ true → spot_of 0 ≡ hit_of h
+pub packed_none : spot_of 0 ≡ nowhere
 unfolding spot_of
-packed_none h e = rw (not-true h.found e)
+packed_none = refl
 
 spot_packed : (c j : ℕ) → j < 64 → spot_of (1 + 64 * c + j) ≡ spot c j
 unfolding spot_of
@@ -102,10 +100,8 @@ spot_packed c j l =
     let q : (1 + 64 * c + j - 1) % 64 ≡ j = omega arith in
     rw (ne_eqb (1 + 64 * c + j) 0 (λ z. omega arith), p, q)
 
-pub packed_some : (h : Hit) → SmallHit h → not h.found ≡ false → spot_of (1 + 64 * h.class + h.index) ≡ hit_of h
-packed_some h s e =
-    let f : h.found ≡ true = not-false h.found e in
-    spot_packed h.class h.index (s.index f) ∙ rw f
+pub packed_some : (h : Hit) → SmallHit h → spot_of (1 + 64 * h.class + h.index) ≡ spot h.class h.index
+packed_some h s = spot_packed h.class h.index s.index
 
 -- the word v stands for the method i of class o as an object of class c has it, in the program of the front f
 abbrev pub Chosen : List ℕ → ℕ → List ℕ → ℕ → ℕ → ℕ → ℕ → Type 0
@@ -121,19 +117,19 @@ pub record Asks (b : List ℕ) (n : ℕ) (f : List ℕ) (c o i : ℕ) : Type 0 w
   pub row : i < row_count (block_at f o) true
 
 module _ (b : List ℕ) (n : ℕ) (f : List ℕ) (h : Tables b n f) where
-  pub sought_small : (g : Signature) (from : ℕ) (r : Hit) → hit_of r ≡ lookup (program_of (files_in b n f)) method_sigs g from → SmallHit r
-  sought_small g from r e = record {
-    class = λ y. (seek-fits b n f h.most h.limited g r y from (is_init g.name) e refl).0;
-    index = λ y. (seek-fits b n f h.most h.limited g r y from (is_init g.name) e refl).1;
-  }
+  pub sought_small : (g : Signature) (from : ℕ) (r : Option Hit) → hit_of r ≡ lookup (program_of (files_in b n f)) method_sigs g from → IfSome r SmallHit
+  sought_small g from None e = tt
+  sought_small g from (Some r) e =
+      let x = seek-fits b n f h.most h.limited g (Some r) from (is_init g.name) e refl in
+      record { class = x.0; index = x.1 }
 
   -- the print that stands for method i is that of its texts
-  pub asked_print : (c o i w a : ℕ) (p d : Span) → Asks b n f c o i → w ≡ prints_word o true → a ≡ word f (w + i) → IsText b p (row_sig b (block_at f o) true i).name → IsText b d (row_sig b (block_at f o) true i).descriptor
-      → a ≡ print_of (signature (take (p.end - p.start) (drop p.start b)) (take (d.end - d.start) (drop d.start b)))
-  asked_print c o i w a p d q z e x y = print_texts b f o true i a p d (q.printed.at o q.owner true) q.row (e ∙ ap (λ (k : ℕ). word f (k + i)) z) x y
+  pub asked_print : (c o i a : ℕ) (p d : Text) → Asks b n f c o i → a ≡ word f (prints_word o true + i) → p ≡ (row_sig b (block_at f o) true i).name → d ≡ (row_sig b (block_at f o) true i).descriptor
+      → a ≡ print_of (signature p d)
+  asked_print c o i a p d q e x y = print_texts b f o true i a p d (q.printed.at o q.owner true) q.row e x y
 
-  pub chosen_by : (c o i : ℕ) (p d : Span) (r : Hit) (v : ℕ) → o < n → i < row_count (block_at f o) true → IsText b p (row_sig b (block_at f o) true i).name → IsText b d (row_sig b (block_at f o) true i).descriptor
-      → hit_of r ≡ lookup (program_of (files_in b n f)) method_sigs (signature (take (p.end - p.start) (drop p.start b)) (take (d.end - d.start) (drop d.start b))) (first_class + c)
+  pub chosen_by : (c o i : ℕ) (p d : Text) (r : Option Hit) (v : ℕ) → o < n → i < row_count (block_at f o) true → p ≡ (row_sig b (block_at f o) true i).name → d ≡ (row_sig b (block_at f o) true i).descriptor
+      → hit_of r ≡ lookup (program_of (files_in b n f)) method_sigs (signature p d) (first_class + c)
       → spot_of v ≡ hit_of r → Chosen b n f c o i v
   chosen_by c o i p d r v l g x y e q =
       q ∙ e ∙ ap (λ (k : Signature). lookup (program_of (files_in b n f)) method_sigs k (first_class + c)) (sig_by b (block_at f o) true i p d x y ∙ sym (method-sig b n f h.most o l i g))

@@ -1,9 +1,7 @@
 -- What a run answers and what it leaves of everything lent, on every path. Assumes nothing.
-use Rattle.std.specs.Prelude.{ℕ, ◌+◌, ◌*◌, ◌<◌, ◌≤◌, ◌≡◌, refl, Bool, true, false, cond, not, List, [], ◌∷◌, ltb, leb, eqb, length, get_or}
-use Rattle.std.proofs.Math.Path.{sym, ap}
-use Rattle.std.proofs.Common.{subst, ◌∙◌}
-use native.Mathlib.Omega.{arith}
-use borrow.Author.Tests.{lt-ltb, le-ltb, le-leb, lt-leb, eq-eqb, ne_eqb, ltb-false, eqb-true, not-true, not-false}
+use Rattle.std.specs.Prelude.{Result as Either, Ok, Err, IfOk, Option as Found, Some, None, ℕ, ◌+◌, ◌*◌, ◌<◌, ◌≤◌, ◌≡◌, refl, Bool, true, false, cond, List, [], ◌∷◌, ltb, leb, eqb, length, get_or}
+use Rattle.std.proofs.Common.{subst, ◌∙◌, sym, ap, arith, lt-ltb, le-ltb, le-leb, eq-eqb, ne_eqb, ltb-false, eqb-true}
+use borrow.Author.Tests.{lt-leb}
 use Rattle.kit.specs.Bools.{not_so}
 use Rattle.kit.specs.Claims.{pass}
 use Rattle.classfiles.specs.Limits.{scratch_size, max_heap, slot_count, max_budget}
@@ -19,7 +17,6 @@ use Rattle.shaping.specs.Phases.{Readied, readied_kept, program_now, shape_by, o
 use Rattle.verifier.specs.Typing.{passes_kept}
 use Rattle.shaping.specs.Verify.{read_shaped}
 use Rattle.shaping.specs.Verified.{refusal_of, IsShaped}
-use Rattle.shaping.specs.declared.whole.Shaped.{Shaped}
 use Rattle.plain.specs.Heap.{Heap}
 use Rattle.plain.specs.Machine.{Machine}
 use Rattle.plain.specs.Run.{run, is_entry, started, size_wrong, bundle_refused, no_entry, argument_count, ending, answer_numbers, entered, answered, answer_of, Lent, sizes_ok, left_of, run_of, zeros}
@@ -29,9 +26,12 @@ use Rattle.running.specs.Standing.{machine_of, Standing}
 use Rattle.running.specs.Dispatching.{Dispatch}
 use Rattle.running.specs.Entry.{entry_now, entry-params, Starts}
 use Rattle.machine.specs.Filling.{Tabled}
-use Rattle.machine.specs.Turns.{Ends, RunsOn}
+use Rattle.running.specs.declared.ends.End.{End}
+use Rattle.running.specs.declared.ends.End.TheVariants.{Returned, Uncaught, HeapFull as NoRoom, DepthFull as NoDepth, Stuck as NoWay}
+use Rattle.machine.specs.Turns.{number_of, value_of, Ends, RunsOn}
 use Rattle.machine.specs.declared.turns.Ran.{Ran}
-use Rattle.machine.specs.declared.run.Told.{Told}
+use Rattle.machine.specs.declared.run.Refused.{Refused}
+use Rattle.machine.specs.declared.run.Refused.TheVariants.{Lent as WrongSize, Bundle, Entry, Arguments}
 
 abbrev pub lent : List ℕ → List ℕ → List ℕ → List ℕ → Lent
 lent t c s g = record { scratch = t; heap = c; slots = s; tags = g }
@@ -39,16 +39,34 @@ lent t c s g = record { scratch = t; heap = c; slots = s; tags = g }
 abbrev pub no_verdict : Answer
 no_verdict = record { number = 0; class = 0; method = 0; place = 0 }
 
-abbrev pub refused_as : ℕ → Answer → Told
-refused_as n v = record { refusal = n; ran = record { end = 0; value = 0; count = 0; used = 0 }; verdict = v }
+abbrev pub Told : Type 0
+Told = Either Ran Refused
 
-abbrev pub ran_as : Ran → Answer → Told
-ran_as q v = record { refusal = 0; ran = q; verdict = v }
+abbrev pub refusal_number : Refused → ℕ
+refusal_number WrongSize = 20
+refusal_number (Bundle v) = 21
+refusal_number Entry = 22
+refusal_number Arguments = 23
+
+pub refusal_small : (e : Refused) → refusal_number e ≤ 23
+refusal_small WrongSize = omega arith
+refusal_small (Bundle v) = omega arith
+refusal_small Entry = omega arith
+refusal_small Arguments = omega arith
+
+abbrev pub verdict_in : Refused → Answer
+verdict_in WrongSize = no_verdict
+verdict_in (Bundle v) = v
+verdict_in Entry = no_verdict
+verdict_in Arguments = no_verdict
 
 -- the answer's nine numbers
+abbrev pub nine : ℕ → ℕ → ℕ → ℕ → ℕ → Answer → List ℕ
+nine refusal end value count used v = refusal ∷ end ∷ value ∷ count ∷ used ∷ v.number ∷ v.class ∷ v.method ∷ v.place ∷ []
+
 abbrev pub told_numbers : Told → List ℕ
-told_numbers r =
-    r.refusal ∷ r.ran.end ∷ r.ran.value ∷ r.ran.count ∷ r.ran.used ∷ r.verdict.number ∷ r.verdict.class ∷ r.verdict.method ∷ r.verdict.place ∷ []
+told_numbers (Ok q) = nine 0 (number_of q.end) (value_of q.end) q.count q.used no_verdict
+told_numbers (Err e) = nine (refusal_number e) 0 0 0 0 (verdict_in e)
 
 -- the same of a program that has passed phases A to C, but for the scratch
 pub record IsEntered (P : Program) (L : Lent) (i j : ℕ) (args : List ℕ) (budget : ℕ) (r : Told) (cells s g : List ℕ) : Type 0 where
@@ -57,28 +75,46 @@ pub record IsEntered (P : Program) (L : Lent) (i j : ℕ) (args : List ℕ) (bud
   pub slots : s ≡ (left_of L (entered P L.heap i j args budget)).slots
   pub tags : g ≡ (left_of L (entered P L.heap i j args budget)).tags
   pub zeroed : (t : List ℕ) → (left_of (lent t L.heap L.slots L.tags) (entered P L.heap i j args budget)).scratch ≡ zeros t
-  pub counted : r.ran.count ≤ budget
-  pub small : r.refusal ≤ 23
+  pub counted : IfOk r (λ q. q.count ≤ budget)
 
 -- what `run` answers and leaves: the definition's numbers, everything lent, and a count within the budget
 pub record IsRun (b : List ℕ) (L : Lent) (i j : ℕ) (args : List ℕ) (budget : ℕ) (r : Told) (M : Lent) : Type 0 where
   pub says : told_numbers r ≡ answer_numbers (run_of b L i j args budget).answer
   pub leaves : M ≡ (run_of b L i j args budget).lent
-  pub counted : r.ran.count ≤ budget
-  pub small : r.refusal ≤ 23
+  pub counted : IfOk r (λ q. q.count ≤ budget)
 
 -- no two outcomes
+end_told : ℕ → ℕ → Found End
+end_told n v =
+    cond (eqb n 1) (Some (Returned v)) (cond (eqb n 2) (Some (Uncaught v)) (cond (eqb n 3) None (cond (eqb n 4) (Some NoRoom) (cond (eqb n 5) (Some NoDepth) (Some NoWay)))))
+
 told_of : List ℕ → Told
-told_of l = record {
-  refusal = get_or l 0 0;
-  ran = record { end = get_or l 1 0; value = get_or l 2 0; count = get_or l 3 0; used = get_or l 4 0 };
-  verdict = record { number = get_or l 5 0; class = get_or l 6 0; method = get_or l 7 0; place = get_or l 8 0 };
-}
+told_of l =
+    cond (eqb (get_or l 0 0) 0) (Ok (record { end = end_told (get_or l 1 0) (get_or l 2 0); count = get_or l 3 0; used = get_or l 4 0 }))
+    (cond (eqb (get_or l 0 0) 20) (Err WrongSize)
+    (cond (eqb (get_or l 0 0) 21) (Err (Bundle (record { number = get_or l 5 0; class = get_or l 6 0; method = get_or l 7 0; place = get_or l 8 0 })))
+    (cond (eqb (get_or l 0 0) 22) (Err Entry) (Err Arguments))))
+
+end_back : (e : Found End) → end_told (number_of e) (value_of e) ≡ e
+unfolding end_told
+end_back None = refl
+end_back (Some (Returned v)) = refl
+end_back (Some (Uncaught c)) = refl
+end_back (Some NoRoom) = refl
+end_back (Some NoDepth) = refl
+end_back (Some NoWay) = refl
+
+told_back : (r : Told) → told_of (told_numbers r) ≡ r
+unfolding told_of
+told_back (Ok q) = ap (λ (e : Found End). Ok (record { end = e; count = q.count; used = q.used })) (end_back q.end)
+told_back (Err WrongSize) = refl
+told_back (Err (Bundle v)) = refl
+told_back (Err Entry) = refl
+told_back (Err Arguments) = refl
 
 pub one_run : (b : List ℕ) (L : Lent) (i j : ℕ) (args : List ℕ) (budget : ℕ) (r r' : Told) (M M' : Lent)
     → IsRun b L i j args budget r M → IsRun b L i j args budget r' M' → (r ≡ r') × (M ≡ M')
-unfolding told_of
-one_run b L i j args budget r r' M M' x y = (ap told_of (x.says ∙ sym y.says), x.leaves ∙ sym y.leaves)
+one_run b L i j args budget r r' M M' x y = (sym (told_back r) ∙ ap told_of (x.says ∙ sym y.says) ∙ told_back r', x.leaves ∙ sym y.leaves)
 
 -- ---- 20
 pub sizes_scratch : (t c s g : List ℕ) (budget : ℕ) → length t < scratch_size → false ≡ sizes_ok (lent t c s g) budget
@@ -195,34 +231,32 @@ module _ (P : Program) (L : Lent) (i j : ℕ) (args : List ℕ) (budget : ℕ) w
   abbrev A : meant.Answer
   A = entered P L.heap i j args budget
 
-  pub entered_none : is_entry P i j ≡ false → (r : Told) → r ≡ refused_as 22 no_verdict → IsEntered P L i j args budget r L.heap L.slots L.tags
+  pub entered_none : is_entry P i j ≡ false → IsEntered P L i j args budget (Err Entry) L.heap L.slots L.tags
   unfolding entered answer_numbers
-  entered_none e r q =
+  entered_none e =
       let a : A ≡ no_entry = rw e in
-      rw q (record {
+      record {
         says = ap answer_numbers (sym a);
         heap = ap (λ (y : meant.Answer). (left_of L y).heap) (sym a);
         slots = ap (λ (y : meant.Answer). (left_of L y).slots) (sym a);
         tags = ap (λ (y : meant.Answer). (left_of L y).tags) (sym a);
         zeroed = λ t. ap (λ (y : meant.Answer). (left_of (lent t L.heap L.slots L.tags) y).scratch) a;
-        counted = omega arith;
-        small = omega arith;
-      })
+        counted = tt;
+      }
 
   module _ (e : is_entry P i j ≡ true) where
-    pub entered-count : (length args ≡ length (method P (first_class + i) j).params → ⊥) → (r : Told) → r ≡ refused_as 23 no_verdict → IsEntered P L i j args budget r L.heap L.slots L.tags
+    pub entered-count : (length args ≡ length (method P (first_class + i) j).params → ⊥) → IsEntered P L i j args budget (Err Arguments) L.heap L.slots L.tags
     unfolding entered answer_numbers
-    entered-count n r q =
+    entered-count n =
         let a : A ≡ argument_count = rw (e, ne_eqb (length args) (length (method P (first_class + i) j).params) n) in
-        rw q (record {
+        record {
           says = ap answer_numbers (sym a);
           heap = ap (λ (y : meant.Answer). (left_of L y).heap) (sym a);
           slots = ap (λ (y : meant.Answer). (left_of L y).slots) (sym a);
           tags = ap (λ (y : meant.Answer). (left_of L y).tags) (sym a);
           zeroed = λ t. ap (λ (y : meant.Answer). (left_of (lent t L.heap L.slots L.tags) y).scratch) a;
-          counted = omega arith;
-          small = omega arith;
-        })
+          counted = tt;
+        }
 
     module _ (n : length args ≡ length (method P (first_class + i) j).params) (cells s g : List ℕ) (q : Ran) (y : Made P L.heap L.slots L.tags i j args budget q cells s g) where
       abbrev R : meant.Ran
@@ -232,20 +266,19 @@ module _ (P : Program) (L : Lent) (i j : ℕ) (args : List ℕ) (budget : ℕ) w
       unfolding entered
       is_ending = rw (e, eq-eqb (length args) (length (method P (first_class + i) j).params) n)
 
-      pub entered-ran : (r : Told) → r ≡ ran_as q no_verdict → IsEntered P L i j args budget r cells s g
+      pub entered-ran : IsEntered P L i j args budget (Ok q) cells s g
       unfolding answer_numbers
-      entered-ran r z =
+      entered-ran =
           let x = y.is in
           let u : R.heap.used ≡ q.used = ap (λ (H : Heap). H.used) x.heap in
-          rw z (record {
+          record {
             says = rw (← x.end, ← x.value, ← x.count, ← u) (ap answer_numbers (sym is_ending));
             heap = sym (ap (λ (H : Heap). H.cells) x.heap) ∙ ap (λ (x : meant.Answer). (left_of L x).heap) (sym is_ending);
             slots = y.slots ∙ ap (λ (x : meant.Answer). (left_of L x).slots) (sym is_ending);
             tags = y.tags ∙ ap (λ (x : meant.Answer). (left_of L x).tags) (sym is_ending);
             zeroed = λ t. ap (λ (x : meant.Answer). (left_of (lent t L.heap L.slots L.tags) x).scratch) is_ending;
             counted = y.most;
-            small = omega arith;
-          })
+          }
 
 -- ---- whole
 module _ (t u c s g : List ℕ) where
@@ -274,44 +307,41 @@ same_lent : (t c s g t' c' s' g' : List ℕ) → t ≡ t' → c ≡ c' → s ≡
 same_lent t c s g t' c' s' g' p q m e = λ k. record { scratch = p k; heap = q k; slots = m k; tags = e k }
 
 module _ (b : List ℕ) (L : Lent) (i j : ℕ) (args : List ℕ) (budget : ℕ) where
-  pub run_sizes : sizes_ok L budget ≡ false → (r : Told) → r ≡ refused_as 20 no_verdict → IsRun b L i j args budget r L
+  pub run_sizes : sizes_ok L budget ≡ false → IsRun b L i j args budget (Err WrongSize) L
   unfolding run_of answer_numbers
-  run_sizes e r q =
+  run_sizes e =
       let f : run_of b L i j args budget ≡ meant.outcome L size_wrong = rw e in
-      rw q (record { says = sym (ap (λ (w : meant.Outcome). answer_numbers w.answer) f); leaves = sym (ap (λ (w : meant.Outcome). w.lent) f); counted = omega arith; small = omega arith })
+      record { says = sym (ap (λ (w : meant.Outcome). answer_numbers w.answer) f); leaves = sym (ap (λ (w : meant.Outcome). w.lent) f); counted = tt }
 
-  module _ (e : sizes_ok L budget ≡ true) (x : Shaped) (u : List ℕ) (y : IsShaped b x u) where
+  module _ (e : sizes_ok L budget ≡ true) (u : List ℕ) where
     was : (R : Read) → read_shaped b ≡ R → run_of b L i j args budget ≡ meant.outcome L (answered R L.heap i j args budget)
     unfolding run_of answer_of
     was R h = rw (e, h)
 
-    pub run-refused : not x.ok ≡ true → (r : Told) → r ≡ refused_as 21 x.answer → (v : List ℕ) → v ≡ zeros L.scratch → IsRun b L i j args budget r (record { scratch = v; heap = L.heap; slots = L.slots; tags = L.tags })
+    pub run-refused : (a : Answer) → IsShaped b (Err a) u → (v : List ℕ) → v ≡ zeros L.scratch → IsRun b L i j args budget (Err (Bundle a)) (record { scratch = v; heap = L.heap; slots = L.slots; tags = L.tags })
     unfolding answered answer_numbers numbers
-    run-refused o r q v z =
-        let h : read_shaped b ≡ refused (refusal_of x.answer) = sym y.is ∙ rw (not-true x.ok o) in
-        rw (q, z) (record {
-          says = sym (ap (λ (w : meant.Outcome). answer_numbers w.answer) (was (refused (refusal_of x.answer)) h));
-          leaves = sym (ap (λ (w : meant.Outcome). w.lent) (was (refused (refusal_of x.answer)) h));
-          counted = omega arith;
-          small = omega arith;
+    run-refused a y v z =
+        let f : run_of b L i j args budget ≡ meant.outcome L (bundle_refused (refusal_of a)) = was (refused (refusal_of a)) (sym y.is) in
+        rw z (record {
+          says = sym (ap (λ (w : meant.Outcome). answer_numbers w.answer) f);
+          leaves = sym (ap (λ (w : meant.Outcome). w.lent) f);
+          counted = tt;
         })
 
-    abbrev A₁ : meant.Answer
-    A₁ = entered (program_now b x.classes u) L.heap i j args budget
+    abbrev A₁ : ℕ → meant.Answer
+    A₁ n = entered (program_now b n u) L.heap i j args budget
 
-    pub run-entered : not x.ok ≡ false → (c s g : List ℕ) (r : Told) → IsEntered (program_now b x.classes u) (lent u L.heap L.slots L.tags) i j args budget r c s g → (v : List ℕ) → v ≡ zeros L.scratch
+    pub run-entered : (n : ℕ) → IsShaped b (Ok n) u → (c s g : List ℕ) (r : Told) → IsEntered (program_now b n u) (lent u L.heap L.slots L.tags) i j args budget r c s g → (v : List ℕ) → v ≡ zeros L.scratch
         → IsRun b L i j args budget r (record { scratch = v; heap = c; slots = s; tags = g })
     unfolding answered
-    run-entered o c s g r w v z =
-        let h : read_shaped b ≡ program (program_now b x.classes u) = sym y.is ∙ rw (not-false x.ok o) in
-        let f : run_of b L i j args budget ≡ meant.outcome L (entered (program_now b x.classes u) L.heap i j args budget) = was (program (program_now b x.classes u)) h in
+    run-entered n y c s g r w v z =
+        let f : run_of b L i j args budget ≡ meant.outcome L (A₁ n) = was (program (program_now b n u)) (sym y.is) in
         record {
           says = w.says ∙ sym (ap (λ (k : meant.Outcome). answer_numbers k.answer) f);
           leaves =
-              same_lent v c s g (left_of L A₁).scratch (left_of L A₁).heap (left_of L A₁).slots (left_of L A₁).tags (z ∙ sym (w.zeroed L.scratch))
-              (w.heap ∙ left_heap u L.scratch L.heap L.slots L.tags A₁) (w.slots ∙ left_slots u L.scratch L.heap L.slots L.tags A₁)
-              (w.tags ∙ left_tags u L.scratch L.heap L.slots L.tags A₁)
+              same_lent v c s g (left_of L (A₁ n)).scratch (left_of L (A₁ n)).heap (left_of L (A₁ n)).slots (left_of L (A₁ n)).tags (z ∙ sym (w.zeroed L.scratch))
+              (w.heap ∙ left_heap u L.scratch L.heap L.slots L.tags (A₁ n)) (w.slots ∙ left_slots u L.scratch L.heap L.slots L.tags (A₁ n))
+              (w.tags ∙ left_tags u L.scratch L.heap L.slots L.tags (A₁ n))
               ∙ sym (ap (λ (k : meant.Outcome). k.lent) f);
           counted = w.counted;
-          small = w.small;
         }

@@ -1,5 +1,5 @@
 // The table of virtual calls: for an object's class and a method found by name, the method that runs. Classes are counted in the bundle.
-ghost use Rattle.std.specs.Prelude.{◌≡◌, ◌+◌, ◌^◌, ◌<◌};
+ghost use Rattle.std.specs.Prelude.{IfSome, ◌≡◌, ◌+◌, ◌^◌, ◌<◌};
 ghost use Rattle.reader.specs.Lookup.{hit_of};
 ghost use Rattle.reader.specs.Prints.{Printed};
 ghost use Rattle.rules.specs.Sites.{front};
@@ -14,13 +14,13 @@ use rules::types;
 use rules::types::Kin;
 
 // 0 for nowhere, or 1 + 64 * class + index.
-fn packed(h: Hit) -> u32
-    requires { SmallHit h }
-    ensures { (spot_of result ≡ hit_of h) × (result < 2 ^ 32) }
+fn packed(sought: Option<Hit>) -> u32
+    requires { IfSome sought SmallHit }
+    ensures { (spot_of result ≡ hit_of sought) × (result < 2 ^ 32) }
 {
-    if !h.found {
+    let Some(h) = sought else {
         return 0;
-    }
+    };
     (1 + 64 * h.class + h.index) as u32
 }
 
@@ -29,15 +29,10 @@ fn chosen(s: &[u8], t: &[u8], n: usize, c: usize, o: usize, i: usize) -> u32
     requires { Asks s.now n t.now c o i }
     ensures { Chosen s.now n t.now c o i result × (result < 2 ^ 32) }
 {
-    let p = signature::member_name(s, t, o, true, i);
-    let f = p.start;
-    let g = p.end;
-    let d = signature::member_descriptor(s, t, o, true, i);
-    let h = d.start;
-    let k = d.end;
-    let w = prints::first_word(o, true);
-    let m = kit::word(t, w + i);
-    packed(lookup::seek_by(s, t, n, 11 + c, true, &s[f..g], &s[h..k], m))
+    let x = signature::member_name(s, t, o, true, i);
+    let y = signature::member_descriptor(s, t, o, true, i);
+    let p = prints::print_at(t, o, true, i);
+    packed(lookup::seek_by(s, t, n, 11 + c, true, x, y, p))
 }
 
 // It is put where it belongs.
@@ -55,10 +50,8 @@ fn row(s: &[u8], t: &mut [u8], n: usize, c: usize, o: usize)
     ensures { Filling s.now n t.old (spot_word c (o + 1) 0) t.new }
 {
     let k = signature::member_count(&t[0..187008], o, true);
-    let mut i = 0;
-    while i < k {
+    for i in 0..k {
         put_chosen(s, t, n, c, o, i);
-        i += 1;
     }
 }
 
@@ -82,10 +75,8 @@ fn rows(s: &[u8], t: &mut [u8], n: usize, c: usize)
     requires { Readied s.now n t.old × Printed s.now n t.old × (c < n) × Filled s.now n (front t.old) (spot_word c 0 0) t.old }
     ensures { Filling s.now n t.old (spot_word (c + 1) 0 0) t.new }
 {
-    let mut o = 0;
-    while o < n {
+    for o in 0..n {
         row_below(s, t, n, c, o);
-        o += 1;
     }
 }
 
@@ -94,10 +85,8 @@ fn fill_all(s: &[u8], t: &mut [u8], n: usize)
     requires { Readied s.now n t.old × Printed s.now n t.old }
     ensures { Dispatch s.now n t.new × Besides table_at table_size t.old t.new }
 {
-    let mut c = 0;
-    while c < n {
+    for c in 0..n {
         rows(s, t, n, c);
-        c += 1;
     }
 }
 

@@ -1,9 +1,9 @@
 // A run from the bytes: refusals, the steps, and everything lent as it is left.
-ghost use Rattle.std.specs.Prelude.{true, ◌≡◌, length, replicate};
+ghost use Rattle.std.specs.Prelude.{true, ◌≡◌};
 ghost use Rattle.kit.specs.Claims.{pass};
 ghost use Rattle.shaping.specs.Phases.{Readied, program_now, shape_by, of_all};
 ghost use Rattle.plain.specs.Run.{sizes_ok};
-ghost use Rattle.machine.specs.Outcomes.{lent, no_verdict, refused_as, Sized, Begins, Made, IsEntered, IsRun};
+ghost use Rattle.machine.specs.Outcomes.{lent, no_verdict, refusal_number, verdict_in, Sized, Begins, Made, IsEntered, IsRun};
 
 use crate::turns::Ran;
 use crate::{dispatch, turns};
@@ -12,15 +12,41 @@ use reader::types;
 use running::entry;
 use shaping::whole;
 
-// The refusal, 0 for none; the run; with 21 the verdict.
+// Why nothing is run: what is lent has another size, the bundle has a verdict, the method is no entry, or it takes more or fewer arguments.
 #[derive(Clone, Copy)]
-pub struct Told {
-    pub refusal: usize,
-    pub ran: Ran,
-    pub verdict: Answer,
+pub enum Refused {
+    Lent,
+    Bundle(Answer),
+    Entry,
+    Arguments,
 }
 
-fn no_verdict() -> Answer
+impl Refused {
+    pub fn number(self) -> u32
+        ensures { result ≡ refusal_number self }
+    {
+        match self {
+            Refused::Lent => 20,
+            Refused::Bundle(_) => 21,
+            Refused::Entry => 22,
+            Refused::Arguments => 23,
+        }
+    }
+
+    // The bundle's; else zeros.
+    pub fn verdict(self) -> Answer
+        ensures { result ≡ verdict_in self }
+    {
+        match self {
+            Refused::Bundle(v) => v,
+            _ => no_verdict(),
+        }
+    }
+}
+
+pub type Told = Result<Ran, Refused>;
+
+pub fn no_verdict() -> Answer
     ensures { result ≡ no_verdict }
 {
     Answer {
@@ -31,33 +57,7 @@ fn no_verdict() -> Answer
     }
 }
 
-fn refused(number: usize, verdict: Answer) -> Told
-    ensures { result ≡ refused_as number verdict }
-{
-    Told {
-        refusal: number,
-        ran: Ran {
-            end: 0,
-            value: 0,
-            count: 0,
-            used: 0,
-        },
-        verdict,
-    }
-}
-
-// Every word becomes 0.
-fn clear(s: &mut [u32])
-    ensures { s.new ≡ replicate (length s.old) 0 }
-{
-    let mut i = 0;
-    while i < s.len() {
-        s[i] = 0;
-        i += 1;
-    }
-}
-
-// 20: whether everything lent has its size.
+// Whether everything lent has its size.
 fn sizes_ok(t: &[u8], cells: &[u32], s: &[u32], g: &[u8], budget: u32) -> bool
     ensures { result ≡ sizes_ok (lent t.now cells.now s.now g.now) budget }
 {
@@ -98,12 +98,12 @@ fn made(
     dispatch::fill(b, t, n);
     let k = entry::start(b, t, s, g, n, i, j, args);
     let r = turns::run_on(b, t, cells, s, g, n, 0, k, 0, budget);
-    clear(s);
-    kit::clear(g);
+    s.fill(0);
+    g.fill(0);
     r
 }
 
-// 22 and 23, then the run, of a bundle that has passed phases A to C.
+// The entry and its arguments, then the run, of a bundle that has passed phases A to C.
 fn entered(
     b: &[u8],
     t: &mut [u8],
@@ -120,20 +120,15 @@ fn entered(
     ensures { IsEntered (program_now b.now n t.old) (lent t.old cells.old s.old g.old) i j args.now budget result cells.new s.new g.new }
 {
     if !entry::is_entry(b, &t[0..187008], n, i, j) {
-        return refused(22, no_verdict());
+        return Err(Refused::Entry);
     }
     if args.len() != types::param_count(&t[0..187008], 64 * i + j) {
-        return refused(23, no_verdict());
+        return Err(Refused::Arguments);
     }
-    let r = made(b, t, cells, s, g, n, i, j, args, budget);
-    Told {
-        refusal: 0,
-        ran: r,
-        verdict: no_verdict(),
-    }
+    Ok(made(b, t, cells, s, g, n, i, j, args, budget))
 }
 
-// 21 to 23, then the run; the scratch ends all zero.
+// The bundle, then the same; the scratch ends all zero.
 fn judged(
     b: &[u8],
     t: &mut [u8],
@@ -148,13 +143,13 @@ fn judged(
     requires { sizes_ok (lent t.old cells.old s.old g.old) budget ≡ true }
     ensures { IsRun b.now (lent t.old cells.old s.old g.old) i j args.now budget result (lent t.new cells.new s.new g.new) }
 {
-    let r = whole::read_shaped(b, t);
-    let n = r.classes;
-    let v = r.answer;
-    if !r.ok {
-        kit::clear(t);
-        return refused(21, v);
-    }
+    let n = match whole::read_shaped(b, t) {
+        Ok(n) => n,
+        Err(answer) => {
+            kit::clear(t);
+            return Err(Refused::Bundle(answer));
+        }
+    };
     let a = entered(b, t, cells, s, g, n, i, j, args, budget);
     kit::clear(t);
     a
@@ -175,7 +170,7 @@ pub fn run(
     ensures { IsRun b.now (lent t.old cells.old s.old g.old) i j args.now budget result (lent t.new cells.new s.new g.new) }
 {
     if !sizes_ok(t, cells, s, g, budget) {
-        return refused(20, no_verdict());
+        return Err(Refused::Lent);
     }
     judged(b, t, cells, s, g, i as usize, j as usize, args, budget)
 }

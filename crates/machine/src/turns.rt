@@ -1,54 +1,97 @@
 // Steps until an end or until the budget is spent.
-ghost use Rattle.std.specs.Prelude.{◌≡◌, true, ◌+◌, ◌<◌, ◌≤◌, ◌^◌, length};
+ghost use Rattle.std.specs.Prelude.{None, ◌≡◌, true, ◌+◌, ◌<◌, ◌≤◌, ◌^◌, length};
 ghost use Rattle.classfiles.specs.Limits.{max_heap};
 ghost use Rattle.running.specs.Standing.{Standing};
 ghost use Rattle.running.specs.Dispatching.{Dispatch};
 ghost use Rattle.machine.specs.Onward.{Onward};
-ghost use Rattle.machine.specs.Turns.{closing, SiteOf, RunsOn};
+ghost use Rattle.machine.specs.Turns.{number_of, value_of, counted, closing, SiteOf, RunsOn};
 
 use plain::frames::Frame;
 use rules::site::Site;
+use running::ends::{End, Ended};
 use running::landing;
-use stepping::moves::Moved;
 use stepping::step;
 use stretching::forward;
 
-// The number of the end, what is returned or the class that is not caught, the steps made, the cells used.
-#[derive(Clone, Copy)]
+// What ends a run, none where the budget was spent; the steps made, the cells used.
+#[derive(Clone, Copy, Debug, PartialEq, Eq)]
 pub struct Ran {
-    pub end: u32,
-    pub value: u32,
+    pub end: Option<End>,
     pub count: u32,
     pub used: u32,
 }
 
-// What a step that does not go on comes to, after `count` others. One that is stopped is not counted.
-fn closed(r: Moved, count: u32) -> Ran
-    requires { r.end < 3 → count + 1 < 2 ^ 32 }
-    ensures { result ≡ closing r count }
+impl Ran {
+    // The end as a number.
+    pub fn end_number(self) -> u32
+        ensures { result ≡ number_of self.end }
+    {
+        let Some(end) = self.end else {
+            return 3;
+        };
+        match end {
+            End::Returned(_) => 1,
+            End::Uncaught(_) => 2,
+            End::HeapFull => 4,
+            End::DepthFull => 5,
+            End::Stuck => 6,
+        }
+    }
+
+    // What is returned, or the class that is not caught; else 0.
+    pub fn value(self) -> u32
+        ensures { result ≡ value_of self.end }
+    {
+        let Some(end) = self.end else {
+            return 0;
+        };
+        match end {
+            End::Returned(v) => v,
+            End::Uncaught(c) => c,
+            End::HeapFull => 0,
+            End::DepthFull => 0,
+            End::Stuck => 0,
+        }
+    }
+}
+
+// Whether the step that comes to the end is counted: one that is stopped is not.
+fn is_counted(end: End) -> bool
+    ensures { result ≡ counted end }
 {
-    if r.end < 3 {
+    match end {
+        End::Returned(_) => true,
+        End::Uncaught(_) => true,
+        End::HeapFull => false,
+        End::DepthFull => false,
+        End::Stuck => false,
+    }
+}
+
+// What a step that does not go on comes to, after `count` others.
+fn closed(e: Ended, count: u32) -> Ran
+    requires { counted e.end ≡ true → count + 1 < 2 ^ 32 }
+    ensures { result ≡ closing e count }
+{
+    if is_counted(e.end) {
         return Ran {
-            end: r.end,
-            value: r.value,
+            end: Some(e.end),
             count: count + 1,
-            used: r.used,
+            used: e.used,
         };
     }
     Ran {
-        end: r.end,
-        value: 0,
+        end: Some(e.end),
         count,
-        used: r.used,
+        used: e.used,
     }
 }
 
 fn out_of_steps(budget: u32, used: u32) -> Ran
-    ensures { result ≡ record { end = 3; value = 0; count = budget; used = used } }
+    ensures { result ≡ record { end = None; count = budget; used = used } }
 {
     Ran {
-        end: 3,
-        value: 0,
+        end: None,
         count: budget,
         used,
     }
@@ -127,17 +170,18 @@ fn run_from(
     let mut call = k;
     let mut used = from;
     let mut site = x;
+    // A turn spends as many steps as its stretch makes.
     while 0 < left {
         let p = onward(b, t, cells, s, g, n, site, depth, call, used, left);
         let here = p.call;
         if p.left == 0 {
             return out_of_steps(budget, p.used);
         }
-        let m = step::step_at(b, t, cells, s, g, n, site, depth, here, p.used);
+        let m = match step::step_at(b, t, cells, s, g, n, site, depth, here, p.used) {
+            Ok(m) => m,
+            Err(e) => return closed(e, budget - p.left),
+        };
         let next = m.call;
-        if m.end != 0 {
-            return closed(m, budget - p.left);
-        }
         if !same_method(here, next) {
             site = landing::site_of(b, t, n, next);
         }

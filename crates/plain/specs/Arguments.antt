@@ -1,11 +1,7 @@
 -- Arguments by the code's test of each. Assumes nothing.
 use Rattle.std.specs.Prelude.{◌≡◌, ℕ, zero, suc, ◌+◌, ◌<◌, Bool, true, false, ◌&&◌, List, [], ◌∷◌, ◌++◌, reverse, refl}
-use Rattle.std.proofs.Math.Path.{sym}
-use Rattle.std.proofs.Common.{ap, ◌∙◌}
-use mathlib.Core.List.{reverse_aux, append_assoc, append-nil}
-use Rattle.std.proofs.Math.Nat.{add-zero, add-suc}
-use Rattle.std.proofs.Math.Numerals.{add-one}
-use native.Mathlib.Omega.{arith}
+use Rattle.std.proofs.Common.{ap, ◌∙◌, sym, append_assoc, append-nil, add-zero, add-suc, add-one, arith}
+use mathlib.Core.List.{reverse_aux}
 use Rattle.kit.specs.Words.{word}
 use Rattle.kit.specs.Scan.{all_of, all_none, all_more, all_same}
 use Rattle.classfiles.specs.Blocks.{listed}

@@ -1,11 +1,6 @@
 -- Entering a method and giving back, as the code's calls are read back. Assumes nothing.
-use Rattle.std.specs.Prelude.{◌≡◌, ℕ, suc, ◌+◌, ◌-◌, ◌*◌, ◌/◌, ◌<◌, ◌≤◌, cond, ◌⊎◌, List, [], ◌∷◌, ◌++◌, length, take, drop, set, ◌==◌, ◌≢◌}
-use Rattle.std.proofs.Math.Path.{refl, sym, ap}
-use Rattle.std.proofs.Common.{subst, ◌∙◌, inl, inr}
-use Rattle.std.proofs.Math.Nat.{add-zero}
-use native.Mathlib.Omega.{arith}
-use borrow.Author.Tests.{lt-ltb, le-ltb}
-use Rattle.std.proofs.Math.ListN.{length-set}
+use Rattle.std.specs.Prelude.{Result as Answer, Ok, Err, ◌≡◌, ℕ, suc, ◌+◌, ◌-◌, ◌*◌, ◌/◌, ◌<◌, ◌≤◌, ◌⊎◌, List, [], ◌∷◌, ◌++◌, length, take, drop, set}
+use Rattle.std.proofs.Common.{subst, ◌∙◌, inl, inr, refl, sym, ap, add-zero, arith, lt-ltb, le-ltb, length-set}
 use Rattle.std.proofs.lemmas.List.{take-set-le, drop-set-add}
 use Rattle.std.proofs.Math.Seq.{take-set-lt}
 use Rattle.kit.specs.Lists.{length_part}
@@ -13,13 +8,15 @@ use Rattle.kit.specs.Pick.{side}
 use Rattle.reader.specs.Program.{Program, method}
 use Rattle.rules.specs.Opcodes.{body, code_of, size_at}
 use Rattle.plain.specs.Heap.{Heap, Val}
-use Rattle.plain.specs.Machine.{call, machine, Result, next, stopped, Here, enter, give_back, ended, returned}
+use Rattle.plain.specs.Machine.{call, machine, Result, next, Here, enter, give_back, ended, returned}
 use Rattle.plain.specs.ValueLaws.{value_of}
-use Rattle.plain.specs.Windows.{locs_from, locs_of, ops_of, end_of, ops_put, locs_put}
+use Rattle.plain.specs.Windows.{locs_from, locs_of, ops_of, halt_of, ops_put, locs_put}
 use Rattle.plain.specs.Calls.{window_at, frame_at, call_of, call_at, waiting, length-waiting, waiting_kept, waiting_more, Saved}
 use Rattle.plain.specs.NextWindow.{Fresh, new-locals}
 use Rattle.plain.specs.declared.frames.Frame.{Frame}
-use Rattle.plain.specs.declared.calls.Going.{Going}
+use Rattle.plain.specs.declared.calls.Running.{Running}
+use Rattle.plain.specs.declared.window.Halt.{Halt}
+use Rattle.plain.specs.declared.window.Halt.TheVariants.{DepthFull}
 
 -- the lent parts have their sizes: 64 windows, and records of 64 calls from word a on
 pub record Lent (t s g : List ℕ) (a : ℕ) : Type 0 where
@@ -36,10 +33,17 @@ pub record Runs (x : Here) (t s g : List ℕ) (a d : ℕ) (k : Frame) : Type 0 w
   pub locals : x.locals ≡ locs_of (window_at s d) (window_at g d) k.locals
   pub waiting : x.waiting ≡ waiting t a s g d
 
--- on in a call at its depth, or stopped
-abbrev pub going_of : Heap → List ℕ → ℕ → List ℕ → List ℕ → Going → Result
-going_of H t a s g r =
-    cond (r.end == 0) (next (machine H (call_of r.call (window_at s r.depth) (window_at g r.depth)) (waiting t a s g r.depth))) (stopped (end_of r.end))
+-- on in a call at its depth
+abbrev pub at_of : Heap → List ℕ → ℕ → List ℕ → List ℕ → Running → Result
+at_of H t a s g r = next (machine H (call_of r.call (window_at s r.depth) (window_at g r.depth)) (waiting t a s g r.depth))
+
+-- or not
+abbrev pub Going : Type 0
+Going = Answer Running Halt
+
+abbrev pub going_of : Program → Here → Heap → List ℕ → ℕ → List ℕ → List ℕ → Going → Result
+going_of P x H t a s g (Ok r) = at_of H t a s g r
+going_of P x H t a s g (Err h) = halt_of P x h
 
 -- n arguments above the operands that are left
 abbrev pub args_at : List ℕ → List ℕ → ℕ → ℕ → ℕ → List Val
@@ -47,26 +51,26 @@ args_at s g d left n = locs_from (window_at s d) (window_at g d) (32 + left) n
 
 pub record Enters (t s g t' s' g' : List ℕ) (a d : ℕ) (k : Frame) (n : ℕ) (into : Frame) (r : Going) : Type 0 where
   pub is : (P : Program) (x : Here) → Runs x t s g a d k → n + ((body (method P into.class into.method)).max_locals - n) ≡ into.locals
-      → going_of x.heap t' a s' g' r ≡ enter P x into.class into.method into.own (args_at s g d k.operands n) (ops_of (window_at s d) (window_at g d) k.operands)
-  pub on : r.end ≡ 0 → (r.depth ≡ d + 1) × (r.call ≡ into) × Saved t t' a d k
-  pub kept : (r.end ≢ 0) → (t' ≡ t) × (s' ≡ s) × (g' ≡ g)
+      → going_of P x x.heap t' a s' g' r ≡ enter P x into.class into.method into.own (args_at s g d k.operands n) (ops_of (window_at s d) (window_at g d) k.operands)
+  pub on : (o : Running) → r ≡ Ok o → (o.depth ≡ d + 1) × (o.call ≡ into) × Saved t t' a d k
+  pub kept : (h : Halt) → r ≡ Err h → (t' ≡ t) × (s' ≡ s) × (g' ≡ g)
   pub front : take (4 * a) t' ≡ take (4 * a) t
   pub lent : Lent t s g a → Lent t' s' g' a
 
 module _ (t s g : List ℕ) (a d : ℕ) (k : Frame) (n : ℕ) (into : Frame) where
-  pub enter_full : (r : Going) → 63 ≤ d → r.end ≡ 5 → Enters t s g t s g a d k n into r
+  pub enter_full : 63 ≤ d → Enters t s g t s g a d k n into (Err DepthFull)
   unfolding enter
-  enter_full r h e = record {
-    is = λ P x z l. rw (e, z.waiting, length-waiting t a s g d, le-ltb (suc d) 64 (omega arith));
-    on = λ q. absurd (omega arith);
-    kept = λ q. (refl, refl, refl);
+  enter_full h = record {
+    is = λ P x z l. rw (z.waiting, length-waiting t a s g d, le-ltb (suc d) 64 (omega arith));
+    on = λ o e. absurd cc;
+    kept = λ h e. (refl, refl, refl);
     front = refl;
     lent = λ z. z;
   }
 
   pub enter_on : (t' s' g' : List ℕ) → d < 63 → k.operands + n ≤ 32 → into.locals ≤ 32 → into.offset ≡ 0 → into.operands ≡ 0
       → Saved t t' a d k → Fresh s s' d k.operands n into.locals → Fresh g g' d k.operands n into.locals
-      → Enters t s g t' s' g' a d k n into (record { end = 0; depth = d + 1; call = into })
+      → Enters t s g t' s' g' a d k n into (Ok (record { depth = d + 1; call = into }))
   unfolding enter ops_of
   enter_on t' s' g' h b l o z v p q =
       let u : d + 1 ≡ suc d = omega arith in
@@ -87,11 +91,16 @@ module _ (t s g : List ℕ) (a d : ℕ) (k : Frame) (n : ℕ) (into : Frame) whe
           ← m,
           new-locals s s' g g' d k.operands n into.locals b l p q (body (method P into.class into.method)).max_locals (omega (arith, m)),
         );
-        on = λ q. (refl, refl, v);
-        kept = λ q. absurd (q refl);
+        on = λ o e. go o e;
+        kept = λ h e. absurd cc;
         front = v.front;
         lent = λ y. record { words = p.size ∙ y.words; tags = q.size ∙ y.tags; records = rw v.size y.records };
       }
+    where
+      go : (o : Running) → ◌≡◌ {A = Going} (Ok (record { depth = d + 1; call = into })) (Ok o) → (o.depth ≡ d + 1) × (o.call ≡ into) × Saved t t' a d k
+      go o e =
+          let f : record { depth = d + 1; call = into } ≡ o = cc in
+          (ap (λ (z : Running). z.depth) (sym f), ap (λ (z : Running). z.call) (sym f), v)
 
 -- ---- back
 -- the waiting call behind its call instruction, with operands more
@@ -106,11 +115,11 @@ resumed_at t a e size more = record {
 }
 
 -- size is that of the instruction at which the call waits
-pub record Gives (t s g s' g' : List ℕ) (a d size : ℕ) (rs : List Val) (r : Going) : Type 0 where
+pub record Gives (t s g s' g' : List ℕ) (a d size : ℕ) (rs : List Val) (r : Running) : Type 0 where
   pub is : (P : Program) (H : Heap)
       → size_at (code_of (method P (frame_at t a (d - 1)).class (frame_at t a (d - 1)).method)) (frame_at t a (d - 1)).offset ≡ size
-      → going_of H t a s' g' r ≡ give_back P H rs (waiting t a s g d)
-  pub on : (r.end ≡ 0) × (r.depth ≡ d - 1) × (r.call ≡ resumed_at t a (d - 1) size (length rs))
+      → at_of H t a s' g' r ≡ give_back P H rs (waiting t a s g d)
+  pub on : (r.depth ≡ d - 1) × (r.call ≡ resumed_at t a (d - 1) size (length rs))
   pub lent : Lent t s g a → Lent t s' g' a
 
 -- from the first call there is nothing to go back to
@@ -125,12 +134,12 @@ module _ (t s g : List ℕ) (a e size : ℕ) where
   unfolding waiting call_at give_back
   back_is rs P H z = rw z
 
-  pub back_bare : (d : ℕ) (k : Frame) (r : Going) → d ≡ suc e → k ≡ resumed_at t a e size 0 → r ≡ record { end = 0; depth = e; call = k } → Gives t s g s g a d size [] r
+  pub back_bare : (d : ℕ) (k : Frame) (r : Running) → d ≡ suc e → k ≡ resumed_at t a e size 0 → r ≡ record { depth = e; call = k } → Gives t s g s g a d size [] r
   unfolding resumed_at
   back_bare d k r u f q =
       let v : suc e - 1 ≡ e = omega arith in
       record {
-        on = rw (u, v, q) (refl, refl, f);
+        on = rw (u, v, q) (refl, f);
         is = rw (u, v, q, f, add-zero (frame_at t a e).operands) (λ P H z. sym (back_is [] P H z));
         lent = λ z. z;
       }
@@ -141,8 +150,8 @@ module _ (t s g : List ℕ) (a e size : ℕ) where
   abbrev n : ℕ
   n = (frame_at t a e).operands
 
-  pub back-with : (d : ℕ) (k : Frame) (r : Going) (s' g' : List ℕ) (tag v : ℕ) → Lent t s g a → e < 64 → (frame_at t a e).operands < 32 → (frame_at t a e).locals ≤ 32 → d ≡ suc e
-      → k ≡ resumed_at t a e size 1 → s' ≡ set s (64 * e + 31 + k.operands) v → g' ≡ set g (64 * e + 31 + k.operands) tag → r ≡ record { end = 0; depth = e; call = k }
+  pub back-with : (d : ℕ) (k : Frame) (r : Running) (s' g' : List ℕ) (tag v : ℕ) → Lent t s g a → e < 64 → (frame_at t a e).operands < 32 → (frame_at t a e).locals ≤ 32 → d ≡ suc e
+      → k ≡ resumed_at t a e size 1 → s' ≡ set s (64 * e + 31 + k.operands) v → g' ≡ set g (64 * e + 31 + k.operands) tag → r ≡ record { depth = e; call = k }
       → Gives t s g s' g' a d size (value_of tag v ∷ []) r
   unfolding resumed_at
   back-with d k r s' g' tag v z b h m u f p q w =
@@ -155,7 +164,7 @@ module _ (t s g : List ℕ) (a e size : ℕ) where
       let ps : s' ≡ set s (64 * e + (32 + n)) v = p ∙ rw (c, j) in
       let pg : g' ≡ set g (64 * e + (32 + n)) tag = q ∙ rw (c, j) in
       record {
-        on = rw (u, o, w) (refl, refl, f);
+        on = rw (u, o, w) (refl, f);
         is = rw (u, o, w, f, ps, pg) (λ P H y.
             rw (
               j2,

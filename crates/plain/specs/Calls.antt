@@ -1,7 +1,6 @@
 -- The calls as the code has them: a window of 64 slots and tags for each depth, a record of six words for each call that waits. Assumes nothing.
 use Rattle.std.specs.Prelude.{◌≡◌, ℕ, zero, suc, ◌+◌, ◌*◌, ◌/◌, ◌^◌, ◌<◌, ◌≤◌, ◌⊎◌, List, [], ◌∷◌, ◌++◌, length, take, drop, ◌≢◌, slice_index}
-use Rattle.std.proofs.Math.Path.{refl, ap}
-use Rattle.std.proofs.Common.{sym, subst, ◌∙◌, inl, inr, arith, zero-add, add-zero, length-take-le, take_at, drop_at}
+use Rattle.std.proofs.Common.{sym, subst, ◌∙◌, inl, inr, arith, zero-add, add-zero, length-take-le, take_at, drop_at, refl, ap}
 use Rattle.kit.specs.Lists.{part-part, length_back}
 use Rattle.kit.specs.Pick.{side}
 use Rattle.kit.specs.Words.{word, put_word, word_same, word_other, length_put}

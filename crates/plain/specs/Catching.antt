@@ -1,9 +1,7 @@
 -- The exception table in the bundle, eight bytes an entry, as the code searches it. Assumes nothing.
-use Rattle.std.specs.Prelude.{◌≡◌, ℕ, zero, suc, ◌+◌, ◌-◌, ◌*◌, ◌/◌, ◌%◌, ◌<◌, Bool, true, false, cond, List, [], ◌∷◌, ◌==◌, nat_lt, refl}
-use Rattle.std.proofs.Common.{sym, ◌∙◌}
-use Rattle.std.proofs.Math.Path.{ap}
+use Rattle.std.specs.Prelude.{◌≤◌, Option as Found, Some, None, ◌≡◌, ℕ, zero, suc, ◌+◌, ◌-◌, ◌*◌, ◌/◌, ◌%◌, ◌<◌, Bool, true, false, cond, List, [], ◌∷◌, ◌==◌, nat_lt, refl}
+use Rattle.std.proofs.Common.{sym, ◌∙◌, ap, arith}
 use Rattle.std.proofs.Math.Option.{Option, none, some}
-use native.Mathlib.Omega.{arith}
 use Rattle.kit.specs.Words.{word}
 use Rattle.texts.specs.Reading.{u2_at}
 use Rattle.reader.specs.BuiltIns.{throwable}
@@ -14,7 +12,6 @@ use Rattle.rules.specs.Shape.{catch_class}
 use Rattle.rules.specs.Walk.{covers}
 use Rattle.rules.specs.Ancestry.{lineage, Parents, below_lineage}
 use Rattle.plain.specs.Machine.{catcher}
-use Rattle.plain.specs.declared.catching.Caught.{Caught}
 
 abbrev pub entry_at : List ℕ → ℕ → Handler
 entry_at s q = record { start = u2_at s q; end = u2_at s (q + 2); target = u2_at s (q + 4); catch = u2_at s (q + 6) }
@@ -26,8 +23,9 @@ named_in t k i = cond (nat_lt k 16) (cond (nat_lt i 1024) (word t (25760 + 1024 
 unfoldable pub caught_in : List ℕ → ℕ → ℕ → ℕ → ℕ
 caught_in t k n i = cond (i == 0) throwable (cond (named_in t k i % 64 == 2) (named_in t k i / 64 % 32) n)
 
-abbrev pub caught_of : Caught → Option ℕ
-caught_of r = cond r.found (some r.target) none
+abbrev pub caught_of : Found ℕ → Option ℕ
+caught_of None = none
+caught_of (Some target) = some target
 
 module _ (L : Program) (f : ℕ → ℕ) (o c : ℕ) where
   unfoldable pub catches_by : Handler → Bool
@@ -37,12 +35,6 @@ module _ (L : Program) (f : ℕ → ℕ) (o c : ℕ) where
   catcher_by [] = none
   catcher_by (h ∷ hs) = cond (catches_by h) (some h.target) (catcher_by hs)
 
-  -- ---- a turn of the search
-  module _ (s : List ℕ) (q n : ℕ) (R : Option ℕ) (v : catcher_by (handlers_from s n q) ≡ R) where
-    pub search_none : n ≡ 0 → none ≡ R
-    unfolding catcher_by handlers_from
-    search_none e = ap (λ (m : ℕ). catcher_by (handlers_from s m q)) (sym e) ∙ v
-
   turn : (s : List ℕ) (q n : ℕ) → 0 < n → catcher_by (handlers_from s n q) ≡ cond (catches_by (entry_at s q)) (some (u2_at s (q + 4))) (catcher_by (handlers_from s (n - 1) (q + 8)))
   unfolding catcher_by handlers_from
   turn s q zero h = absurd (omega arith)
@@ -50,12 +42,32 @@ module _ (L : Program) (f : ℕ → ℕ) (o c : ℕ) where
       let e : suc n - 1 ≡ n = omega arith in
       rw e
 
-  module _ (s : List ℕ) (q n : ℕ) (R : Option ℕ) (b : Bool) where
-    pub search_hit : catcher_by (handlers_from s n q) ≡ R → 0 < n → b ≡ true → b ≡ catches_by (entry_at s q) → (a : ℕ) → a ≡ u2_at s (q + 4) → some a ≡ R
-    search_hit v h e g a p = ap some p ∙ sym (turn s q n h ∙ rw (← g, e)) ∙ v
+  -- ---- the search from entry i on
+  abbrev pub from_entry : List ℕ → ℕ → ℕ → ℕ → Option ℕ
+  from_entry s at n i = catcher_by (handlers_from s (n - i) (at + 8 * i))
 
-    pub search_next : catcher_by (handlers_from s n q) ≡ R → 0 < n → b ≡ false → b ≡ catches_by (entry_at s q) → catcher_by (handlers_from s (n - 1) (q + 8)) ≡ R
-    search_next v h e g = sym (turn s q n h ∙ rw (← g, e)) ∙ v
+  pub search_start : (s : List ℕ) (at n : ℕ) → from_entry s at n 0 ≡ catcher_by (handlers_from s n at)
+  search_start s at n =
+      let e : n - 0 ≡ n = omega arith in
+      let f : at + 8 * 0 ≡ at = omega arith in
+      rw (e, f)
+
+  module _ (s : List ℕ) (at n i : ℕ) (R : Option ℕ) (v : from_entry s at n i ≡ R) where
+    pub search_none : n ≤ i → none ≡ R
+    unfolding catcher_by handlers_from
+    search_none h =
+        let e : 0 ≡ n - i = omega arith in
+        ap (λ (m : ℕ). catcher_by (handlers_from s m (at + 8 * i))) e ∙ v
+
+    module _ (h : i < n) (b : Bool) where
+      pub search_hit : b ≡ true → b ≡ catches_by (entry_at s (at + 8 * i)) → (a : ℕ) → a ≡ u2_at s (at + 8 * i + 4) → some a ≡ R
+      search_hit e g a p = ap some p ∙ sym (turn s (at + 8 * i) (n - i) (omega arith) ∙ rw (← g, e)) ∙ v
+
+      pub search_next : b ≡ false → b ≡ catches_by (entry_at s (at + 8 * i)) → from_entry s at n (i + 1) ≡ R
+      search_next e g =
+          let m : n - (i + 1) ≡ n - i - 1 = omega arith in
+          let q : at + 8 * (i + 1) ≡ at + 8 * i + 8 = omega arith in
+          rw (m, q) (sym (turn s (at + 8 * i) (n - i) (omega arith) ∙ rw (← g, e)) ∙ v)
 
 -- what catches in every program with these parents, of a method whose entries name those classes
 pub catcher-by : (P : Program) (M : Method) (t : List ℕ) (at count : ℕ) (p : Parents P t at count) (f : ℕ → ℕ) → ((h : Handler) → catch_class P M h ≡ f h.catch) → (o c : ℕ) (hs : List Handler)

@@ -3,11 +3,10 @@ use Rattle.std.specs.Prelude.{◌≡◌, ℕ, List}
 use Rattle.std.proofs.Common.{sym, subst}
 use Rattle.reader.specs.Program.{Program}
 use Rattle.rules.specs.Instruction.{Instr}
-use Rattle.plain.specs.Windows.{Goes}
+use Rattle.plain.specs.Windows.{Turn, Goes}
 use Rattle.plain.specs.WindowForms.{doing}
 use Rattle.plain.specs.HeapTurns.{Steps}
 use Rattle.plain.specs.declared.window.Place.{Place}
-use Rattle.plain.specs.declared.window.Turn.{Turn}
 
 module _ {G : Type 0} (of : G → Instr) (i j : G) (e : i ≡ j) (c : Place) (w g w' g' : List ℕ) (r : Turn) (n : ℕ) where
   pub window_arm : Goes c w g w' g' r (doing w g n (of j)) → Goes c w g w' g' r (doing w g n (of i))

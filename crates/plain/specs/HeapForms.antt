@@ -1,9 +1,8 @@
 -- The forms that read or write the heap, by the code's tests on operands and headers. Assumes nothing.
-use Rattle.std.specs.Prelude.{◌≡◌, ℕ, zero, suc, ◌+◌, ◌-◌, ◌<◌, ◌≤◌, Bool, true, false, cond, not, List, [], ◌∷◌, length, ◌==◌, ◌≢◌, nat_eq, nat_le, nat_lt, slice_index, slice_index_or}
-use Rattle.std.proofs.Math.Path.{refl, sym, ap}
-use Rattle.std.proofs.Common.{subst, ◌∙◌, le-leb, lt-ltb, le-ltb, ne_eqb}
+use Rattle.std.specs.Prelude.{Result as Answer, Ok, Err, IsErrAnd, OnOk, ◌≡◌, ℕ, zero, suc, ◌+◌, ◌-◌, ◌<◌, ◌≤◌, Bool, true, false, cond, not, List, [], ◌∷◌, length, ◌==◌, ◌≢◌, nat_eq, nat_le, nat_lt, slice_index, slice_index_or}
+use Rattle.std.proofs.Common.{subst, ◌∙◌, le-leb, lt-ltb, le-ltb, ne_eqb, refl, sym, ap, arith}
+use Rattle.std.specs.Int.{from_bool}
 use Rattle.std.specs.Bool.{beq}
-use native.Mathlib.Omega.{arith}
 use Rattle.reader.specs.BuiltIns.{object, array_store, class_cast, array_index, negative_size, null_pointer}
 use Rattle.classfiles.specs.Descriptors.{Ref, cls, arr, Desc, dref}
 use Rattle.reader.specs.Program.{Program, layout}
@@ -15,12 +14,13 @@ use Rattle.plain.specs.Heap.{Heap, heap, Val, empty, num, ref, cell, type_at, re
 use Rattle.plain.specs.Machine.{stuck, Result, stopped, Here, only, pop_any, pop_int, with_int, with_object, with_element, push, push_on, branch, fault, receiver}
 use Rattle.plain.specs.Step.{object_desc, truth, element, load, make_array, make, get_field, put_field, execute}
 use Rattle.plain.specs.Objects.{usable, receiver_by, element_by, object_by, fits_here, type_here, usable_here}
-use Rattle.plain.specs.Windows.{val_at, ops_of, Stands, length_ops, pushing, choosing, either, faulting}
+use Rattle.plain.specs.Windows.{Turn, val_at, ops_of, Stands, length_ops, pushing, choosing, either, faulting}
 use Rattle.plain.specs.WindowForms.{doing, any_by}
 use Rattle.plain.specs.HeapTurns.{Steps, As, guarded, writing, making, guard_not, guard_so, if_zero, if_some, either_yes, either_no, steps_fault, likewise}
 use Rattle.plain.specs.Turns.{untrue, holds_so}
 use Rattle.plain.specs.declared.window.Place.{Place}
-use Rattle.plain.specs.declared.window.Turn.{Turn}
+use Rattle.plain.specs.declared.window.Halt.{Halt}
+use Rattle.plain.specs.declared.window.Halt.TheVariants.{Fault, Stuck}
 
 -- ---- several operands
 stop : (b : Bool) → only b (stopped stuck) ≡ stopped stuck
@@ -133,10 +133,13 @@ module _ (t : List ℕ) (a m : ℕ) (c : Place) (w g cells : List ℕ) (P : Prog
       (guarded (nat_lt 0 (depth_in cells v)) (guarded (beq ints (is_dint (element_of cells v))) (either (nat_lt i (size_in cells v)) rest (faulting array_index))))
       (ap (λ (H : Heap). with_element (type_at H (head_of v)) λ d. only (beq ints (is_dint d)) (cond (nat_lt i (slice_index H.cells (head_of v + 2))) (k d (element_at (head_of v) i)) (fault P x array_index))) s.heap ∙ element_by (base_in cells v) (depth_in cells v) _ ∙ rw e)
 
--- ---- the code's checks of a receiver, and of an array and an index: an answer that ends the step, or what follows decides
-pub record Checked (K : Program → Type 0) (c : Place) (cells : List ℕ) (r : Turn) (chain : (Program → Here → Result) → Program → Here → Result) : Type 0 where
-  pub refused : (r.end ≢ 0) → (w g : List ℕ) (rest : Program → Here → Result) → Steps K c w g cells w g cells r (chain rest)
-  pub passed : r.end ≡ 0 → (w g w' g' cells' : List ℕ) (q : Turn) (rest : Program → Here → Result) → Steps K c w g cells w' g' cells' q rest → Steps K c w g cells w' g' cells' q (chain rest)
+-- ---- the code's checks of a receiver, and of an array and an index: a halt, or what follows decides
+abbrev pub checked_by : (Program → Type 0) → Place → List ℕ → ((Program → Here → Result) → Program → Here → Result) → Answer (Unit {0}) Halt → Type 0
+checked_by K c cells chain (Err h) = (w g : List ℕ) (rest : Program → Here → Result) → Steps K c w g cells w g cells (Err h) (chain rest)
+checked_by K c cells chain (Ok u) = (w g w' g' cells' : List ℕ) (q : Turn) (rest : Program → Here → Result) → Steps K c w g cells w' g' cells' q rest → Steps K c w g cells w' g' cells' q (chain rest)
+
+pub record Checked (K : Program → Type 0) (c : Place) (cells : List ℕ) (r : Answer (Unit {0}) Halt) (chain : (Program → Here → Result) → Program → Here → Result) : Type 0 where
+  pub by : checked_by K c cells chain r
 
 -- ---- what calls gave, of the reference n
 module _ (cells : List ℕ) (r n k : ℕ) where
@@ -169,30 +172,22 @@ element_desc b (suc d) D h e =
     let z : suc d - 1 ≡ d = omega arith in
     ap (λ (u : Ref). element_or u D) e ∙ rw z
 
-not_both : (n k : ℕ) → n ≡ suc k → n ≢ 0
-not_both n k e f = omega arith
-
-module _ (K : Program → Type 0) (c : Place) (cells : List ℕ) (r : Turn) (L : Program) (v : Val) where
+module _ (K : Program → Type 0) (c : Place) (cells : List ℕ) (L : Program) (v : Val) where
   module _ (u : Ref) where
-    pub reach_unfit : (q : Bool) → not q ≡ true → q ≡ fit L cells (dref u) v → r.end ≡ 6 → r.operands ≡ 0 → Checked K c cells r (reaching L cells u v)
+    pub reach_unfit : (q : Bool) → not q ≡ true → q ≡ fit L cells (dref u) v → Checked K c cells (Err Stuck) (reaching L cells u v)
     unfolding reaching
-    reach_unfit q f e h z = record {
-      refused = λ n w g rest. guard_not K c w g cells r _ _ (untrue q _ f e) h z;
-      passed = λ y. absurd (not_both r.end 5 h y);
+    reach_unfit q f e = record { by = λ w g rest. guard_not K c w g cells _ _ (untrue q _ f e) }
+
+    pub reach_null : (q : Bool) (n : ℕ) → not q ≡ false → q ≡ fit L cells (dref u) v → n ≡ 0 → n ≡ to_cell v → Checked K c cells (Err (Fault null_pointer)) (reaching L cells u v)
+    unfolding reaching
+    reach_null q n f e y k = record {
+      by = λ w g rest. guard_so K c w g cells w g cells _ _ _ (holds_so q _ f e) (if_zero K c w g cells w g cells _ n (to_cell v) _ _ y k (steps_fault K c w g cells null_pointer));
     }
 
-    pub reach_null : (q : Bool) (n : ℕ) → not q ≡ false → q ≡ fit L cells (dref u) v → n ≡ 0 → n ≡ to_cell v → r.end ≡ 7 → r.at ≡ null_pointer → r.operands ≡ 0 → Checked K c cells r (reaching L cells u v)
+    pub reach_on : (q : Bool) (n : ℕ) (o : Unit {0}) → not q ≡ false → q ≡ fit L cells (dref u) v → (n ≢ 0) → n ≡ to_cell v → Checked K c cells (Ok o) (reaching L cells u v)
     unfolding reaching
-    reach_null q n f e y k h o z = record {
-      refused = λ _ w g rest. guard_so K c w g cells w g cells r _ _ (holds_so q _ f e) (if_zero K c w g cells w g cells r n (to_cell v) _ _ y k (steps_fault K c w g cells r null_pointer h o z));
-      passed = λ y. absurd (not_both r.end 6 h y);
-    }
-
-    pub reach_on : (q : Bool) (n : ℕ) → not q ≡ false → q ≡ fit L cells (dref u) v → (n ≢ 0) → n ≡ to_cell v → r.end ≡ 0 → Checked K c cells r (reaching L cells u v)
-    unfolding reaching
-    reach_on q n f e y k h = record {
-      refused = λ z. absurd (z h);
-      passed = λ _ w g w' g' cells' p rest s. guard_so K c w g cells w' g' cells' p _ _ (holds_so q _ f e) (if_some K c w g cells w' g' cells' p n (to_cell v) _ _ y k s);
+    reach_on q n o f e y k = record {
+      by = λ w g w' g' cells' p rest s. guard_so K c w g cells w' g' cells' p _ _ (holds_so q _ f e) (if_some K c w g cells w' g' cells' p n (to_cell v) _ _ y k s);
     }
 
   by_array : (w g w' g' cells' : List ℕ) (p : Turn) (rest : Program → Here → Result) → Steps K c w g cells w' g' cells' p (ready-array cells v rest) → Steps K c w g cells w' g' cells' p (arraying L cells v rest)
@@ -200,41 +195,36 @@ module _ (K : Program → Type 0) (c : Place) (cells : List ℕ) (r : Turn) (L :
 
   -- q is whether it is usable, n the reference, td the header's depth
   module _ (q : Bool) (e : q ≡ usable (heap cells 0) v) where
-    pub array_unfit : not q ≡ true → r.end ≡ 6 → r.operands ≡ 0 → Checked K c cells r (arraying L cells v)
-    array_unfit f h z = record {
-      refused = λ _ w g rest. by_array w g w g cells r rest (guard_not K c w g cells r _ _ (untrue q _ f e) h z);
-      passed = λ y. absurd (not_both r.end 5 h y);
-    }
+    pub array_unfit : not q ≡ true → Checked K c cells (Err Stuck) (arraying L cells v)
+    array_unfit f = record { by = λ w g rest. by_array w g w g cells _ rest (guard_not K c w g cells _ _ (untrue q _ f e)) }
 
     module _ (f : not q ≡ false) (n : ℕ) (k : n ≡ to_cell v) where
-      pub array_null : n ≡ 0 → r.end ≡ 7 → r.at ≡ null_pointer → r.operands ≡ 0 → Checked K c cells r (arraying L cells v)
-      array_null y h o z = record {
-        refused = λ _ w g rest. by_array w g w g cells r rest (guard_so K c w g cells w g cells r _ _ (holds_so q _ f e) (if_zero K c w g cells w g cells r n (to_cell v) _ _ y k (steps_fault K c w g cells r null_pointer h o z)));
-        passed = λ y. absurd (not_both r.end 6 h y);
+      pub array_null : n ≡ 0 → Checked K c cells (Err (Fault null_pointer)) (arraying L cells v)
+      array_null y = record {
+        by = λ w g rest. by_array w g w g cells _ rest (guard_so K c w g cells w g cells _ _ _ (holds_so q _ f e) (if_zero K c w g cells w g cells _ n (to_cell v) _ _ y k (steps_fault K c w g cells null_pointer)));
       }
 
       module _ (y : n ≡ 0 → ⊥) (td : ℕ) (d : td ≡ slice_index cells (n - 1 + 1)) where
-        pub array_flat : td ≡ 0 → r.end ≡ 6 → r.operands ≡ 0 → Checked K c cells r (arraying L cells v)
-        array_flat o h z = record {
-          refused = λ _ w g rest. by_array w g w g cells r rest (guard_so K c w g cells w g cells r _ _ (holds_so q _ f e)
-              (if_some K c w g cells w g cells r n (to_cell v) _ _ y k (guard_not K c w g cells r _ _ (depth_zero cells td n (to_cell v) o d k) h z)));
-          passed = λ y. absurd (not_both r.end 5 h y);
+        pub array_flat : td ≡ 0 → Checked K c cells (Err Stuck) (arraying L cells v)
+        array_flat o = record {
+          by = λ w g rest. by_array w g w g cells _ rest (guard_so K c w g cells w g cells _ _ _ (holds_so q _ f e)
+              (if_some K c w g cells w g cells _ n (to_cell v) _ _ y k (guard_not K c w g cells _ _ (depth_zero cells td n (to_cell v) o d k))));
         }
 
-        pub array_on : (td ≢ 0) → r.end ≡ 0 → Checked K c cells r (arraying L cells v)
-        array_on o h = record {
-          refused = λ z. absurd (z h);
-          passed = λ _ w g w' g' cells' p rest s. by_array w g w' g' cells' p rest (guard_so K c w g cells w' g' cells' p _ _ (holds_so q _ f e)
+        pub array_on : (z : Unit {0}) → (td ≢ 0) → Checked K c cells (Ok z) (arraying L cells v)
+        array_on z o = record {
+          by = λ w g w' g' cells' p rest s. by_array w g w' g' cells' p rest (guard_so K c w g cells w' g' cells' p _ _ (holds_so q _ f e)
               (if_some K c w g cells w' g' cells' p n (to_cell v) _ _ y k (guard_so K c w g cells w' g' cells' p _ _ (depth_some cells td n (to_cell v) o d k) s)));
         }
 
   module _ (ints : Bool) (i : ℕ) where
-    pub index-refused : Checked K c cells r (arraying L cells v) → (r.end ≢ 0) → Checked K c cells r (indexing L cells ints v i)
+    pub index-refused : (r : Answer (Unit {0}) Halt) (h : Halt) → IsErrAnd r (λ z. z ≡ h) → Checked K c cells (Err h) (arraying L cells v) → Checked K c cells r (indexing L cells ints v i)
     unfolding indexing
-    index-refused h z = record { refused = λ _ w g rest. h.refused z w g _; passed = λ y. absurd (z y) }
+    index-refused (Ok z) h p k = absurd p
+    index-refused (Err z) h p k = rw p (record { by = λ w g rest. k.by w g _ })
 
     -- n is the reference, tb and td are the header's base and depth
-    module _ (p : Turn) (h : Checked K c cells p (arraying L cells v)) (z : p.end ≡ 0) (n td : ℕ) (y : n ≡ to_cell v) (f : td ≡ slice_index cells (n - 1 + 1))
+    module _ (z : Unit {0}) (h : Checked K c cells (Ok z) (arraying L cells v)) (n td : ℕ) (y : n ≡ to_cell v) (f : td ≡ slice_index cells (n - 1 + 1))
         (tb : ℕ) (x : tb ≡ slice_index cells (n - 1)) (e : 0 < depth_in cells v) (D : Desc) (ed : arr D ≡ ref_of tb td) (q b : Bool) (eq : q ≡ is_dint D) (eb : b ≡ beq ints q) where
       kind_is : b ≡ beq ints (is_dint (element_of cells v))
       kind_is =
@@ -243,31 +233,26 @@ module _ (K : Program → Type 0) (c : Place) (cells : List ℕ) (r : Turn) (L :
           let desc_is : D ≡ element_of cells v = element_desc tb td D (rw depth_is e) ed ∙ rw (base_is, depth_is) in
           eb ∙ ap (beq ints) (eq ∙ ap is_dint desc_is)
 
-      pub index_kind : not b ≡ true → r.end ≡ 6 → r.operands ≡ 0 → Checked K c cells r (indexing L cells ints v i)
+      pub index_kind : not b ≡ true → Checked K c cells (Err Stuck) (indexing L cells ints v i)
       unfolding indexing
-      index_kind j k o = record {
-        refused = λ _ w g rest. h.passed z w g w g cells r _ (guard_not K c w g cells r _ _ (untrue b _ j kind_is) k o);
-        passed = λ y. absurd (not_both r.end 5 k y);
-      }
+      index_kind j = record { by = λ w g rest. h.by w g w g cells _ _ (guard_not K c w g cells _ _ (untrue b _ j kind_is)) }
 
       module _ (j : not b ≡ false) (size : ℕ) (l : size ≡ slice_index cells (n - 1 + 2)) where
         size_is : size ≡ size_in cells v
         size_is = l ∙ ap (λ (k : ℕ). slice_index cells (k - 1 + 2)) y
 
-        pub index_out : size ≤ i → r.end ≡ 7 → r.at ≡ array_index → r.operands ≡ 0 → Checked K c cells r (indexing L cells ints v i)
+        pub index_out : size ≤ i → Checked K c cells (Err (Fault array_index)) (indexing L cells ints v i)
         unfolding indexing
-        index_out o k u x = record {
-          refused = λ _ w g rest. h.passed z w g w g cells r _
-              (guard_so K c w g cells w g cells r _ _ (holds_so b _ j kind_is)
-              (either_no K c w g cells w g cells r _ _ _ (le-ltb i (size_in cells v) (rw (← size_is) o)) (steps_fault K c w g cells r array_index k u x)));
-          passed = λ y. absurd (not_both r.end 6 k y);
+        index_out o = record {
+          by = λ w g rest. h.by w g w g cells _ _
+              (guard_so K c w g cells w g cells _ _ _ (holds_so b _ j kind_is)
+              (either_no K c w g cells w g cells _ _ _ _ (le-ltb i (size_in cells v) (rw (← size_is) o)) (steps_fault K c w g cells array_index)));
         }
 
-        pub index_on : i < size → r.end ≡ 0 → Checked K c cells r (indexing L cells ints v i)
+        pub index_on : (a : Unit {0}) → i < size → Checked K c cells (Ok a) (indexing L cells ints v i)
         unfolding indexing
-        index_on o k = record {
-          refused = λ y. absurd (y k);
-          passed = λ _ w g w' g' cells' x rest s. h.passed z w g w' g' cells' x _
+        index_on a o = record {
+          by = λ w g w' g' cells' x rest s. h.by w g w' g' cells' x _
               (guard_so K c w g cells w' g' cells' x _ _ (holds_so b _ j kind_is)
               (either_yes K c w g cells w' g' cells' x _ _ _ (lt-ltb i (size_in cells v) (rw (← size_is) o)) s));
         }
@@ -427,7 +412,7 @@ module _ (cells : List ℕ) (n k tb td : ℕ) (D : Desc) (x : tb ≡ slice_index
       let d : td ≡ slice_index_or cells (k - 1 + 1) 0 = f ∙ ap (λ (j : ℕ). slice_index cells (j - 1 + 1)) y in
       element_desc tb td D (rw d h) e ∙ rw (b, d)
 
-pub checked_as : (K : Program → Type 0) (c : Place) (cells : List ℕ) (r : Turn) (L : Program) (ints : Bool) (v : Val) (n k : ℕ) → n ≡ k → Checked K c cells r (indexing L cells ints v n) → Checked K c cells r (indexing L cells ints v k)
+pub checked_as : (K : Program → Type 0) (c : Place) (cells : List ℕ) (r : Answer (Unit {0}) Halt) (L : Program) (ints : Bool) (v : Val) (n k : ℕ) → n ≡ k → Checked K c cells r (indexing L cells ints v n) → Checked K c cells r (indexing L cells ints v k)
 checked_as K c cells r L ints v n k e h = subst (λ (j : ℕ). Checked K c cells r (indexing L cells ints v j)) e h
 
 pub loaded_as : (cells : List ℕ) (r n k i j : ℕ) → r ≡ slice_index cells (element_at (n - 1) i) → n ≡ k → i ≡ j → r ≡ slice_index cells (element_at (k - 1) j)
@@ -456,10 +441,19 @@ pub from_element : (u : Val) (cells : List ℕ) (n k tb td i j r : ℕ) (D : Des
     → 0 < slice_index cells (k - 1 + 1) → r ≡ slice_index cells (element_at (n - 1) i) → i ≡ j → u ≡ from_cell (desc_of (slice_index cells (k - 1)) (slice_index cells (k - 1 + 1) - 1)) (slice_index cells (element_at (k - 1) j))
 from_element u cells n k tb td i j r D p e x f y h q z = from_as u D _ r _ p (element_as cells n k tb td D x f y h e) (loaded_as cells r n k i j q y z)
 
+pub bit_as : (q : ℕ) (b : Bool) → q ≡ from_bool b → q ≡ cond b 1 0
+bit_as q true e = e
+bit_as q false e = e
+
 pub kind_as : (v : Val) (q : ℕ) (b : Bool) (L : Program) (cells : List ℕ) (n k tb td : ℕ) (u y : Ref) → v ≡ num q → q ≡ cond b 1 0 → b ≡ ref_fits L (ref_of tb td) u → tb ≡ slice_index cells (n - 1)
     → td ≡ slice_index cells (n - 1 + 1) → n ≡ k → u ≡ y → v ≡ truth (ref_fits L (ref_of (slice_index cells (k - 1)) (slice_index cells (k - 1 + 1))) y)
 kind_as v q b L cells n k tb td u y o z e f h p w =
     let t : b ≡ ref_fits L (ref_of (slice_index cells (k - 1)) (slice_index cells (k - 1 + 1))) y = cc in
     o ∙ ap num z ∙ ap truth t
+
+-- what is said of a value says nothing of the halt that `?` hands on
+pub on_err : (r : Answer (Unit {0}) Halt) (h : Halt) (A : Type 0) → IsErrAnd r (λ z. z ≡ h) → OnOk r A
+on_err (Ok z) h A p = absurd p
+on_err (Err z) h A p = tt
 
 pub ruleset checks = (reach_unfit, reach_null, reach_on, array_unfit, array_null, array_flat, array_on, index-refused, index_kind, index_out, index_on)

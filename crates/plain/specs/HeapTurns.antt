@@ -1,23 +1,22 @@
 -- Steps that read or write the heap, by the code's tests, of every program of which K is known. Assumes nothing.
-use Rattle.std.specs.Prelude.{◌≡◌, ℕ, suc, ◌+◌, ◌-◌, ◌<◌, ◌≤◌, Bool, true, false, List, ◌∷◌, length, set, ◌==◌, ◌≢◌}
-use Rattle.std.proofs.Math.Path.{refl}
-use Rattle.std.proofs.Common.{sym, ap, ◌∙◌}
-use native.Mathlib.Omega.{arith}
-use borrow.Author.Tests.{lt-leb, le-leb, eq-eqb, ne_eqb}
+use Rattle.std.specs.Prelude.{Ok, Err, IsErrAnd, ◌≡◌, ℕ, suc, ◌+◌, ◌-◌, ◌<◌, ◌≤◌, Bool, true, false, List, ◌∷◌, length, set, ◌==◌, ◌≢◌}
+use Rattle.std.proofs.Common.{sym, ap, ◌∙◌, refl, arith, le-leb, eq-eqb, ne_eqb}
+use borrow.Author.Tests.{lt-leb}
 use Rattle.classfiles.specs.Descriptors.{Ref}
 use Rattle.reader.specs.Program.{Program}
 use Rattle.plain.specs.Heap.{heap, Val, ref, element_at, store, allocate, has_room}
 use Rattle.plain.specs.Machine.{stuck, Result, next, stopped, Here, only, go_on, push_on, with_room, create, resumed}
 use Rattle.plain.specs.ValueLaws.{value_of}
-use Rattle.plain.specs.Windows.{locs_of, ops_of, turn_of, Sized, Stands, Goes, going, pushing, choosing, either, faulting, ops_put, locs_put, length_ops}
+use Rattle.plain.specs.Windows.{Turn, operands_of, locs_of, ops_of, turn_of, Sized, Stands, Goes, going, pushing, choosing, either, faulting, ops_put, locs_put, length_ops}
 use Rattle.plain.specs.Turns.{push_low, go_low, go_next}
 use Rattle.plain.specs.declared.window.Place.{Place}
-use Rattle.plain.specs.declared.window.Turn.{Turn}
+use Rattle.plain.specs.declared.window.Halt.{Halt}
+use Rattle.plain.specs.declared.window.Halt.TheVariants.{Fault, HeapFull, Stuck}
 
 pub record Steps (K : Program → Type 0) (c : Place) (w g cells w' g' cells' : List ℕ) (r : Turn) (what : Program → Here → Result) : Type 0 where
   pub is : (P : Program) (x : Here) → K P → Stands P x c w g cells → turn_of P x c.locals w' g' cells' r ≡ what P x
-  pub kept : (r.end ≢ 0) → (w' ≡ w) × (g' ≡ g) × (cells' ≡ cells)
-  pub room : r.operands ≤ 32
+  pub kept : (h : Halt) → r ≡ Err h → (w' ≡ w) × (g' ≡ g) × (cells' ≡ cells)
+  pub room : operands_of r ≤ 32
 
 -- one and the same for every such program, in every such context
 pub record As (K : Program → Type 0) (c : Place) (w g cells : List ℕ) (what rest : Program → Here → Result) : Type 0 where
@@ -34,17 +33,22 @@ unfoldable pub making : Ref → ℕ → ℕ → List ℕ → List ℕ → ℕ �
 making u n ready w g k P x = create x.heap u n ready λ q H. push_on P x H (ref q ∷ ops_of w g k)
 
 module _ (K : Program → Type 0) (c : Place) (w g cells : List ℕ) where
-  pub steps_stuck : (r : Turn) (what : Program → Here → Result) → ((P : Program) (x : Here) → K P → Stands P x c w g cells → what P x ≡ stopped stuck)
-      → r.end ≡ 6 → r.operands ≡ 0 → Steps K c w g cells w g cells r what
-  steps_stuck r what h e z = record { is = λ P x q s. rw e (sym (h P x q s)); kept = λ q. (refl, refl, refl); room = omega arith }
+  pub steps_stuck : (what : Program → Here → Result) → ((P : Program) (x : Here) → K P → Stands P x c w g cells → what P x ≡ stopped stuck)
+      → Steps K c w g cells w g cells (Err Stuck) what
+  steps_stuck what h = record { is = λ P x q s. sym (h P x q s); kept = λ h e. (refl, refl, refl); room = omega arith }
 
-  pub steps_fault : (r : Turn) (k : ℕ) → r.end ≡ 7 → r.at ≡ k → r.operands ≡ 0 → Steps K c w g cells w g cells r (faulting k)
+  pub steps_fault : (k : ℕ) → Steps K c w g cells w g cells (Err (Fault k)) (faulting k)
   unfolding faulting
-  steps_fault r k e f z = record { is = λ P x q s. rw (e, f); kept = λ q. (refl, refl, refl); room = omega arith }
+  steps_fault k = record { is = λ P x q s. refl; kept = λ h e. (refl, refl, refl); room = omega arith }
 
-  pub guard_not : (r : Turn) (t : Bool) (rest : Program → Here → Result) → t ≡ false → r.end ≡ 6 → r.operands ≡ 0 → Steps K c w g cells w g cells r (guarded t rest)
+  pub guard_not : (t : Bool) (rest : Program → Here → Result) → t ≡ false → Steps K c w g cells w g cells (Err Stuck) (guarded t rest)
   unfolding guarded
-  guard_not r t rest q e z = steps_stuck r (guarded t rest) (λ P x k s. rw q) e z
+  guard_not t rest q = steps_stuck (guarded t rest) (λ P x k s. rw q)
+
+  -- the halt that `?` hands on
+  pub handed : (r : Turn) (h : Halt) (what : Program → Here → Result) → IsErrAnd r (λ z. z ≡ h) → Steps K c w g cells w g cells (Err h) what → Steps K c w g cells w g cells r what
+  handed (Ok z) h what p s = absurd p
+  handed (Err z) h what p s = rw p s
 
 module _ (K : Program → Type 0) (c : Place) (w g cells w' g' cells' : List ℕ) (r : Turn) where
   pub likewise : (what rest : Program → Here → Result) → As K c w g cells what rest → Steps K c w g cells w' g' cells' r rest → Steps K c w g cells w' g' cells' r what
@@ -73,7 +77,7 @@ module _ (K : Program → Type 0) (c : Place) (w g cells w' g' cells' : List ℕ
 -- a step that leaves the heap alone
 module _ (K : Program → Type 0) (c : Place) (w g cells w' g' : List ℕ) (r : Turn) where
   pub windowed : (what : Program → Here → Result) → Goes c w g w' g' r what → Steps K c w g cells w' g' cells r what
-  windowed what k = record { is = λ P x q s. k.is P x cells s; kept = λ q. ((k.kept q).0, (k.kept q).1, refl); room = k.room }
+  windowed what k = record { is = λ P x q s. k.is P x cells s; kept = λ h e. ((k.kept h e).0, (k.kept h e).1, refl); room = k.room }
 
   pub push-heap : (d : Place) (u v : Val) (n : ℕ) → d ≡ record { operands = n; most = c.most; locals = c.locals; after = c.after; used = c.used } → u ≡ v
       → Goes d w g w' g' r (pushing u w g d.operands) → Steps K c w g cells w' g' cells r (pushing v w g n)
@@ -95,30 +99,30 @@ module _ (K : Program → Type 0) (c : Place) (w g cells w' g' : List ℕ) (r : 
 
 -- ---- writing a cell
 module _ (K : Program → Type 0) (c : Place) (w g cells : List ℕ) (i v n : ℕ) where
-  pub write_stuck : (r : Turn) → c.most < n → r.end ≡ 6 → r.operands ≡ 0 → Steps K c w g cells w g cells r (writing i v w g n)
+  pub write_stuck : c.most < n → Steps K c w g cells w g cells (Err Stuck) (writing i v w g n)
   unfolding writing go_on
-  write_stuck r h e z = steps_stuck K c w g cells r (writing i v w g n) (λ P x q s. rw (length_ops w g n, s.most, lt-leb n c.most h)) e z
+  write_stuck h = steps_stuck K c w g cells (writing i v w g n) (λ P x q s. rw (length_ops w g n, s.most, lt-leb n c.most h))
 
-  pub write_on : (cells' : List ℕ) (r : Turn) → n ≤ c.most → n ≤ 32 → cells' ≡ set cells i v → r ≡ record { end = 0; at = c.after; operands = n; used = c.used } → Steps K c w g cells w g cells' r (writing i v w g n)
+  pub write_on : (cells' : List ℕ) → n ≤ c.most → n ≤ 32 → cells' ≡ set cells i v → Steps K c w g cells w g cells' (Ok (record { at = c.after; operands = n; used = c.used })) (writing i v w g n)
   unfolding writing go_on store
-  write_on cells' r h l e f = record {
-    is = λ P x q s. rw (f, e, length_ops w g n, s.most, le-leb n c.most h, s.heap, s.locals, s.after);
-    kept = λ q. absurd (q (ap (λ (z : Turn). z.end) f));
-    room = rw (ap (λ (z : Turn). z.operands) f) l;
+  write_on cells' h l e = record {
+    is = λ P x q s. rw (e, length_ops w g n, s.most, le-leb n c.most h, s.heap, s.locals, s.after);
+    kept = λ h e. absurd cc;
+    room = l;
   }
 
 -- ---- making
 module _ (K : Program → Type 0) (c : Place) (w g cells : List ℕ) (u : Ref) (size ready k : ℕ) where
-  pub make_full : (r : Turn) → has_room (heap cells c.used) size ≡ false → r.end ≡ 4 → r.operands ≡ 0 → Steps K c w g cells w g cells r (making u size ready w g k)
+  pub make_full : has_room (heap cells c.used) size ≡ false → Steps K c w g cells w g cells (Err HeapFull) (making u size ready w g k)
   unfolding making create with_room
-  make_full r h e z = record { is = λ P x q s. rw (e, s.heap, h); kept = λ q. (refl, refl, refl); room = omega arith }
+  make_full h = record { is = λ P x q s. rw (s.heap, h); kept = λ h e. (refl, refl, refl); room = omega arith }
 
-  pub make-stuck : (r : Turn) → has_room (heap cells c.used) size ≡ true → c.most ≤ k → r.end ≡ 6 → r.operands ≡ 0 → Steps K c w g cells w g cells r (making u size ready w g k)
+  pub make-stuck : has_room (heap cells c.used) size ≡ true → c.most ≤ k → Steps K c w g cells w g cells (Err Stuck) (making u size ready w g k)
   unfolding making create with_room go_on
-  make-stuck r h l e z = steps_stuck K c w g cells r (making u size ready w g k) (λ P x q s. rw (s.heap, h, length_ops w g k, s.most, lt-leb (suc k) c.most (omega arith))) e z
+  make-stuck h l = steps_stuck K c w g cells (making u size ready w g k) (λ P x q s. rw (s.heap, h, length_ops w g k, s.most, lt-leb (suc k) c.most (omega arith)))
 
   pub make_on : (cells' : List ℕ) (q : ℕ) → has_room (heap cells c.used) size ≡ true → k < c.most → Sized c w g → heap cells' q ≡ allocate (heap cells c.used) u size ready
-      → Steps K c w g cells (set w (32 + k) (c.used + 1)) (set g (32 + k) 2) cells' (record { end = 0; at = c.after; operands = k + 1; used = q }) (making u size ready w g k)
+      → Steps K c w g cells (set w (32 + k) (c.used + 1)) (set g (32 + k) 2) cells' (Ok (record { at = c.after; operands = k + 1; used = q })) (making u size ready w g k)
   unfolding making create with_room go_on value_of
   make_on cells' q h l z e =
       let o : k + 1 ≡ suc k = omega arith in
@@ -127,7 +131,7 @@ module _ (K : Program → Type 0) (c : Place) (w g cells : List ℕ) (u : Ref) (
       let hg : 32 + k < length g = rw z.tags (omega (arith, z.most)) in
       record {
         is = λ P x y s. rw (e, s.heap, h, length_ops w g k, s.most, le-leb (suc k) c.most (omega arith), s.locals, s.after, o, p, ops_put w g k (suc c.used) 2 hw hg, locs_put w g k (suc c.used) 2 c.locals z.locals) (made P x s);
-        kept = λ y. absurd (y refl);
+        kept = λ h e. absurd cc;
         room = omega (arith, z.most);
       }
     where
@@ -155,11 +159,11 @@ make_low K c d w g cells w' g' cells' r u u' size size' ready n e f h k = record
 pub record Writes (c : Place) (n : ℕ) (cells cells' : List ℕ) (r : Turn) (i v : ℕ) : Type 0 where
   pub all : (w g : List ℕ) → Steps AnyProgram c w g cells w g cells' r (writing i v w g n)
 
-pub writes_stuck : (c : Place) (n : ℕ) (cells : List ℕ) (r : Turn) (i v : ℕ) → c.most < n → r.end ≡ 6 → r.operands ≡ 0 → Writes c n cells cells r i v
-writes_stuck c n cells r i v h e z = record { all = λ w g. write_stuck AnyProgram c w g cells i v n r h e z }
+pub writes_stuck : (c : Place) (n : ℕ) (cells : List ℕ) (i v : ℕ) → c.most < n → Writes c n cells cells (Err Stuck) i v
+writes_stuck c n cells i v h = record { all = λ w g. write_stuck AnyProgram c w g cells i v n h }
 
-pub writes_on : (c : Place) (n : ℕ) (cells cells' : List ℕ) (r : Turn) (i v : ℕ) → n ≤ c.most → n ≤ 32 → cells' ≡ set cells i v → r ≡ record { end = 0; at = c.after; operands = n; used = c.used } → Writes c n cells cells' r i v
-writes_on c n cells cells' r i v h l e f = record { all = λ w g. write_on AnyProgram c w g cells i v n cells' r h l e f }
+pub writes_on : (c : Place) (n : ℕ) (cells cells' : List ℕ) (i v : ℕ) → n ≤ c.most → n ≤ 32 → cells' ≡ set cells i v → Writes c n cells cells' (Ok (record { at = c.after; operands = n; used = c.used })) i v
+writes_on c n cells cells' i v h l e = record { all = λ w g. write_on AnyProgram c w g cells i v n cells' h l e }
 
 pub write_any : (K : Program → Type 0) (c : Place) (w g cells cells' : List ℕ) (r : Turn) (n k a j i v u : ℕ) → Writes c n cells cells' r (element_at (k - 1) i) v → k ≡ a → i ≡ j → v ≡ u
     → Steps K c w g cells w g cells' r (writing (element_at (a - 1) j) u w g n)

@@ -1,9 +1,10 @@
 -- What the next window's locals come to. Assumes nothing.
-use Rattle.std.specs.Prelude.{◌≡◌, ℕ, zero, suc, ◌+◌, ◌-◌, ◌*◌, ◌<◌, ◌≤◌, ◌⊎◌, List, ◌∷◌, ◌++◌, length, take, replicate, slice_index, slice_set, refl}
-use Rattle.std.proofs.Common.{sym, ap, ◌∙◌, inl, inr, zero-add, add-zero, suc-add, add-suc, arith, length-set, get_or-take, get_or-set_same, get_or-set_other, take-take}
-use Rattle.std.proofs.lemmas.List.{take-set-le}
+use Rattle.std.specs.Prelude.{◌≡◌, ℕ, zero, suc, ◌+◌, ◌-◌, ◌*◌, ◌<◌, ◌≤◌, ◌⊎◌, List, ◌∷◌, ◌++◌, length, take, drop, replicate, slice_index, slice_set, refl}
+use Rattle.std.proofs.Common.{sym, ap, ◌∙◌, inl, inr, zero-add, add-zero, suc-add, add-suc, arith, length-set, length-append, length-drop, length-take-le, get_or-take, get_or-set_same, get_or-set_other, take-take}
+use Rattle.std.proofs.lemmas.List.{take-set-le, take-append-le, length-replicate, get_or-append_right, get_or_append_left}
+use borrow.Rule.Slice.PartMut.{put_mid}
 use Rattle.kit.specs.Pick.{side}
-use Rattle.kit.specs.Lists.{get_d_part}
+use Rattle.kit.specs.Lists.{get_d_part, length_part, get_or-replicate_same}
 use Rattle.plain.specs.Heap.{Val, empty, padded_locals}
 use Rattle.plain.specs.ValueLaws.{value_of}
 use Rattle.plain.specs.Windows.{val_at, locs_from, locs_of, length_locs}
@@ -46,21 +47,19 @@ carry_more l l' from to i v h m e k = record {
         let z : j ≡ i = omega arith in
         rw z (get_or-set_same l' (to + i) v 0 (rw k.size m) ∙ e ∙ get_d_front l l' to (from + i) k.front h)
 
-pub wipe_none : (l : List ℕ) (to : ℕ) → Wiped l l to 0
-wipe_none l to = record { size = refl; front = refl; zeros = λ i h. absurd (omega arith) }
-
-pub wipe_more : (l l' : List ℕ) (to i : ℕ) → to + i < length l → Wiped l l' to i → Wiped l (slice_set l' (to + i) 0) to (i + 1)
-wipe_more l l' to i m k = record {
-  size = length-set l' (to + i) 0 ∙ k.size;
-  front = take-set-le to l' (to + i) 0 (omega arith) ∙ k.front;
-  zeros = λ j b. at j (omega arith) (side j i);
-}
-  where
-    at : (j : ℕ) → j ≤ i → (j < i) ⊎ (i ≤ j) → slice_index (slice_set l' (to + i) 0) (to + j) ≡ 0
-    at j b (inl c) = get_or-set_other l' (to + i) (to + j) 0 0 (λ z. omega arith) ∙ k.zeros j c
-    at j b (inr c) =
-        let z : j ≡ i = omega arith in
-        rw z (get_or-set_same l' (to + i) 0 0 (rw k.size m))
+-- as `fill` leaves a part
+pub wipe_part : (l m : List ℕ) (to n k : ℕ) → to + n ≤ length l → k ≡ n → m ≡ replicate (length (take k (drop to l))) 0 → Wiped l (put_mid to k l m) to n
+wipe_part l m to n k h e p =
+    let z : length (take k (drop to l)) ≡ n = rw e (length_part to n l h) in
+    let a : length (take to l) ≡ to = length-take-le to l (omega arith) in
+    rw (p, z, e) (record {
+      size = simp (length-append, length-replicate, length-drop, a) (omega arith);
+      front = take-append-le to (take to l) (replicate n 0 ++ drop n (drop to l)) (omega arith) ∙ take-take to to l (omega arith);
+      zeros = λ i b.
+          let u : to + i - to ≡ i = omega arith in
+          get_or-append_right (take to l) (replicate n 0 ++ drop n (drop to l)) to (to + i) 0 a (omega arith)
+          ∙ rw u (get_or_append_left (replicate n 0) (drop n (drop to l)) 0 i (rw (length-replicate) b) ∙ get_or-replicate_same n i 0);
+    })
 
 -- ---- both together
 pub fresh : (l m r : List ℕ) (d left n most : ℕ) → Carried l m (64 * d + 32 + left) (64 * d + 64) n → Wiped m r (64 * d + 64 + n) (most - n) → Fresh l r d left n most

@@ -1,8 +1,7 @@
 -- What instructions ask of the objects that values refer to, as tests: the definitions of Machine and Step that hand on an object, read as
 -- a test and what follows it, in the code's order. Assumes nothing.
 use Rattle.std.specs.Prelude.{◌≡◌, ℕ, zero, suc, ◌+◌, ◌-◌, Bool, true, false, cond, not, List, ◌==◌, ◌≢◌, nat_eq, nat_lt, slice_index, refl}
-use Rattle.std.proofs.Common.{sym, ◌∙◌, arith, ne_eqb, lt-ltb}
-use Rattle.std.proofs.Math.Path.{ap}
+use Rattle.std.proofs.Common.{sym, ◌∙◌, arith, ne_eqb, lt-ltb, ap}
 use Rattle.reader.specs.BuiltIns.{null_pointer}
 use Rattle.classfiles.specs.Descriptors.{Ref, cls, Desc, dref}
 use Rattle.reader.specs.Program.{Program}

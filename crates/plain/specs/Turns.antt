@@ -1,55 +1,50 @@
 -- Steps by their tests: what the code's answers come to in every context that stands where the code does. Assumes nothing.
-use Rattle.std.specs.Prelude.{◌≡◌, ℕ, suc, ◌+◌, ◌-◌, ◌<◌, ◌≤◌, Bool, true, false, not, List, ◌∷◌, length, set, ◌==◌, ◌≢◌, refl}
-use Rattle.std.proofs.Common.{sym, ap, ◌∙◌, length-set}
-use Rattle.std.proofs.Math.Nat.{zero-add}
-use native.Mathlib.Omega.{arith}
-use borrow.Author.Tests.{lt-leb, le-leb, eq-eqb, ne_eqb, not-true, not-false}
+use Rattle.std.specs.Prelude.{Ok, Err, ◌≡◌, ℕ, suc, ◌+◌, ◌-◌, ◌<◌, ◌≤◌, Bool, true, false, not, List, ◌∷◌, length, set, ◌==◌, ◌≢◌, refl}
+use Rattle.std.proofs.Common.{sym, ap, ◌∙◌, length-set, zero-add, arith, le-leb, eq-eqb, ne_eqb}
+use borrow.Author.Tests.{lt-leb, not-true, not-false}
 use Rattle.reader.specs.Program.{Program}
 use Rattle.plain.specs.Heap.{heap, Val, num}
 use Rattle.plain.specs.Machine.{stuck, Result, stopped, Here, only, go_on}
 use Rattle.plain.specs.ValueLaws.{value_of}
-use Rattle.plain.specs.Windows.{ops_of, locs_of, turn_of, Sized, Stands, Goes, going, pushing, storing, choosing, either, faulting, ops_put, locs_put, local_put, ops_local, length_ops, length_locs, set_past}
+use Rattle.plain.specs.Windows.{Turn, ops_of, locs_of, turn_of, Sized, Stands, Goes, going, pushing, storing, choosing, either, faulting, ops_put, locs_put, local_put, ops_local, length_ops, length_locs, set_past}
 use Rattle.plain.specs.declared.window.Place.{Place}
-use Rattle.plain.specs.declared.window.Turn.{Turn}
+use Rattle.plain.specs.declared.window.Halt.TheVariants.{Fault, Stuck}
 
 -- ---- stuck
-turn-stuck : (P : Program) (x : Here) (n : ℕ) (w g cells : List ℕ) (r : Turn) → r.end ≡ 6 → turn_of P x n w g cells r ≡ stopped stuck
-turn-stuck P x n w g cells r e = rw e
-
-pub halted : (c : Place) (w g : List ℕ) (r : Turn) (what : Program → Here → Result)
-    → ((P : Program) (x : Here) (cells : List ℕ) → Stands P x c w g cells → what P x ≡ stopped stuck) → r.end ≡ 6 → r.operands ≡ 0 → Goes c w g w g r what
-halted c w g r what h e z = record {
-  is = λ P x cells s. turn-stuck P x c.locals w g cells r e ∙ sym (h P x cells s);
-  kept = λ q. (refl, refl);
+pub halted : (c : Place) (w g : List ℕ) (what : Program → Here → Result)
+    → ((P : Program) (x : Here) (cells : List ℕ) → Stands P x c w g cells → what P x ≡ stopped stuck) → Goes c w g w g (Err Stuck) what
+halted c w g what h = record {
+  is = λ P x cells s. sym (h P x cells s);
+  kept = λ h e. (refl, refl);
   room = omega arith;
 }
 
 -- ---- on
 module _ (c : Place) (w g : List ℕ) (at : ℕ) where
-  pub go_stuck : (r : Turn) → c.most < c.operands → r.end ≡ 6 → r.operands ≡ 0
-      → Goes c w g w g r (going at w g c.operands)
+  pub go_stuck : c.most < c.operands
+      → Goes c w g w g (Err Stuck) (going at w g c.operands)
   unfolding go_on going
-  go_stuck r h e z = halted c w g r _ (λ P x cells s. rw (length_ops w g c.operands, s.most, lt-leb c.operands c.most h)) e z
+  go_stuck h = halted c w g _ (λ P x cells s. rw (length_ops w g c.operands, s.most, lt-leb c.operands c.most h))
 
   pub go_on_lem : c.operands ≤ c.most → c.operands ≤ 32
-      → Goes c w g w g (record { end = 0; at = at; operands = c.operands; used = c.used }) (going at w g c.operands)
+      → Goes c w g w g (Ok (record { at = at; operands = c.operands; used = c.used })) (going at w g c.operands)
   unfolding go_on going
   go_on_lem h l = record {
     is = λ P x cells s. rw (length_ops w g c.operands, s.most, le-leb c.operands c.most h, s.heap, s.locals);
-    kept = λ q. (refl, refl);
+    kept = λ h e. (refl, refl);
     room = l;
   }
 
 -- a value more
 module _ (c : Place) (w g : List ℕ) (k v : ℕ) where
-  pub push-stuck : (r : Turn) → c.most ≤ c.operands → r.end ≡ 6 → r.operands ≡ 0
-      → Goes c w g w g r (pushing (value_of k v) w g c.operands)
+  pub push-stuck : c.most ≤ c.operands
+      → Goes c w g w g (Err Stuck) (pushing (value_of k v) w g c.operands)
   unfolding go_on pushing
-  push-stuck r h e z =
-      halted c w g r _ (λ P x cells s. rw (length_ops w g c.operands, s.most, lt-leb (suc c.operands) c.most (omega arith))) e z
+  push-stuck h =
+      halted c w g _ (λ P x cells s. rw (length_ops w g c.operands, s.most, lt-leb (suc c.operands) c.most (omega arith)))
 
   pub push-on : Sized c w g → c.operands < c.most
-      → Goes c w g (set w (32 + c.operands) v) (set g (32 + c.operands) k) (record { end = 0; at = c.after; operands = c.operands + 1; used = c.used }) (pushing (value_of k v) w g c.operands)
+      → Goes c w g (set w (32 + c.operands) v) (set g (32 + c.operands) k) (Ok (record { at = c.after; operands = c.operands + 1; used = c.used })) (pushing (value_of k v) w g c.operands)
   unfolding go_on pushing
   push-on z h =
       let e : c.operands + 1 ≡ suc c.operands = omega arith in
@@ -57,34 +52,34 @@ module _ (c : Place) (w g : List ℕ) (k v : ℕ) where
       let hg : 32 + c.operands < length g = rw z.tags (omega (arith, z.most)) in
       record {
         is = λ P x cells s. rw (length_ops w g c.operands, s.most, le-leb (suc c.operands) c.most (omega arith), s.heap, s.locals, s.after, e, ops_put w g c.operands v k hw hg, locs_put w g c.operands v k c.locals z.locals);
-        kept = λ q. absurd (q refl);
+        kept = λ h e. absurd cc;
         room = omega (arith, z.most);
       }
 
 -- a value into a local, no operand more; a local that is not there takes nothing
 module _ (c : Place) (w g : List ℕ) (j k v : ℕ) where
-  pub store-stuck : (r : Turn) → c.most < c.operands → r.end ≡ 6 → r.operands ≡ 0 → Goes c w g w g r (storing (value_of k v) j w g c.operands)
+  pub store-stuck : c.most < c.operands → Goes c w g w g (Err Stuck) (storing (value_of k v) j w g c.operands)
   unfolding go_on storing
-  store-stuck r h e z = halted c w g r _ (λ P x cells s. rw (length_ops w g c.operands, s.most, lt-leb c.operands c.most h)) e z
+  store-stuck h = halted c w g _ (λ P x cells s. rw (length_ops w g c.operands, s.most, lt-leb c.operands c.most h))
 
   pub store_on : Sized c w g → j < c.locals → c.operands ≤ c.most
-      → Goes c w g (set w j v) (set g j k) (record { end = 0; at = c.after; operands = c.operands; used = c.used }) (storing (value_of k v) j w g c.operands)
+      → Goes c w g (set w j v) (set g j k) (Ok (record { at = c.after; operands = c.operands; used = c.used })) (storing (value_of k v) j w g c.operands)
   unfolding go_on storing
   store_on z l h =
       let hw : 0 + j < length w = rw z.words (omega (arith, z.locals)) in
       let hg : 0 + j < length g = rw z.tags (omega (arith, z.locals)) in
       record {
         is = λ P x cells s. rw (length_ops w g c.operands, s.most, le-leb c.operands c.most h, s.heap, s.locals, s.after, ops_local w g v k c.operands j (omega (arith, z.locals)), local_put w g v k 0 c.locals j l hw hg, zero-add j);
-        kept = λ q. absurd (q refl);
+        kept = λ h e. absurd cc;
         room = z.operands;
       }
 
   pub store_past : Sized c w g → c.locals ≤ j → c.operands ≤ c.most
-      → Goes c w g w g (record { end = 0; at = c.after; operands = c.operands; used = c.used }) (storing (value_of k v) j w g c.operands)
+      → Goes c w g w g (Ok (record { at = c.after; operands = c.operands; used = c.used })) (storing (value_of k v) j w g c.operands)
   unfolding go_on storing
   store_past z l h = record {
     is = λ P x cells s. rw (length_ops w g c.operands, s.most, le-leb c.operands c.most h, s.heap, s.locals, s.after, set_past (locs_of w g c.locals) j (value_of k v) (omega (arith, length_locs w g 0 c.locals)));
-    kept = λ q. (refl, refl);
+    kept = λ h e. (refl, refl);
     room = z.operands;
   }
 
@@ -109,9 +104,9 @@ only_false b z e = rw e
 only_true : (b : Bool) (z : Result) → b ≡ true → only b z ≡ z
 only_true b z e = rw e
 
-module _ (c : Place) (w g : List ℕ) (r : Turn) (what rest : Program → Here → Result) where
-  pub if_not : (t : Bool) → By c w g what t rest → t ≡ false → r.end ≡ 6 → r.operands ≡ 0 → Goes c w g w g r what
-  if_not t h q e z = halted c w g r what (λ P x cells s. h.is P x cells s ∙ only_false t (rest P x) q) e z
+module _ (c : Place) (w g : List ℕ) (what rest : Program → Here → Result) where
+  pub if_not : (t : Bool) → By c w g what t rest → t ≡ false → Goes c w g w g (Err Stuck) what
+  if_not t h q = halted c w g what (λ P x cells s. h.is P x cells s ∙ only_false t (rest P x) q)
 
 module _ (c : Place) (w g w' g' : List ℕ) (r : Turn) (what rest : Program → Here → Result) where
   pub if_so : (t : Bool) → By c w g what t rest → t ≡ true → Goes c w g w' g' r rest → Goes c w g w' g' r what
@@ -174,9 +169,9 @@ module _ (c : Place) (w g w' g' : List ℕ) (r : Turn) where
   unfolding either
   either_not t a b e k = alike b (either t a b) (λ P x cells s. rw e) k
 
-pub faulted : (c : Place) (w g : List ℕ) (r : Turn) (k : ℕ) → r.end ≡ 7 → r.at ≡ k → r.operands ≡ 0 → Goes c w g w g r (faulting k)
+pub faulted : (c : Place) (w g : List ℕ) (k : ℕ) → Goes c w g w g (Err (Fault k)) (faulting k)
 unfolding faulting
-faulted c w g r k e f z = record { is = λ P x cells s. rw (e, f); kept = λ q. (refl, refl); room = omega arith }
+faulted c w g k = record { is = λ P x cells s. refl; kept = λ h e. (refl, refl); room = omega arith }
 
 -- a zero, tested
 module _ (c : Place) (w g w' g' : List ℕ) (r : Turn) (k : ℕ) (a b : Program → Here → Result) where

@@ -1,10 +1,7 @@
 -- Types by base and depth, and values by tag and cell: the verifier's words, what fits where, and what a reference refers to.
 -- Assumes nothing.
 use Rattle.std.specs.Prelude.{◌≡◌, ℕ, zero, suc, ◌+◌, ◌-◌, ◌/◌, ◌%◌, ◌^◌, ◌<◌, ◌≤◌, Bool, true, false, cond, List, ◌==◌, ◌≢◌, nat_eq, slice_index}
-use Rattle.std.proofs.Math.Path.{refl, ap}
-use Rattle.std.proofs.Common.{sym, ◌∙◌, add-one}
-use native.Mathlib.Omega.{arith}
-use borrow.Author.Tests.{ne_eqb, eqb-true, eq-eqb}
+use Rattle.std.proofs.Common.{sym, ◌∙◌, add-one, refl, ap, arith, ne_eqb, eqb-true, eq-eqb}
 use Rattle.classfiles.specs.Descriptors.{Ref, cls, arr, Desc, dint, dref}
 use Rattle.reader.specs.Program.{Program, below}
 use Rattle.rules.specs.Types.{ini, ref_fits, desc_fits, fits, is_dint}

@@ -1,9 +1,7 @@
 -- The forms that touch the running call's window alone, by the code's tests. Assumes nothing.
-use Rattle.std.specs.Prelude.{◌≡◌, ℕ, zero, suc, ◌+◌, ◌-◌, ◌<◌, ◌≤◌, Bool, true, false, cond, not, List, ◌∷◌, length, ◌==◌, nat_le, nat_lt, slice_index, slice_set}
-use Rattle.std.proofs.Math.Path.{refl, ap, subst}
-use Rattle.std.proofs.Common.{sym, ◌∙◌, zero-add, length-set}
-use native.Mathlib.Omega.{arith}
-use borrow.Author.Tests.{lt-leb, le-leb, eqb-true, ltb-true, leb-true, not-false}
+use Rattle.std.specs.Prelude.{Ok, Err, ◌≡◌, ℕ, zero, suc, ◌+◌, ◌-◌, ◌<◌, ◌≤◌, Bool, true, false, cond, not, List, ◌∷◌, length, ◌==◌, nat_le, nat_lt, slice_index, slice_set}
+use Rattle.std.proofs.Common.{sym, ◌∙◌, zero-add, length-set, refl, ap, subst, arith, le-leb, eqb-true, ltb-true, leb-true}
+use borrow.Author.Tests.{lt-leb, not-false}
 use Rattle.reader.specs.Program.{Program}
 use Rattle.reader.specs.BuiltIns.{arithmetic}
 use Rattle.rules.specs.Instruction.{Instr, swap, dupx1, Op, add, Division, Test, nop, aconstnull, pop, dup, ineg, iconst, iload, aload, istore, astore, goto, iinc, ibin, idiv, ifint, ificmp}
@@ -12,10 +10,10 @@ use Rattle.plain.specs.Heap.{Val, empty, num, ref, is_ref}
 use Rattle.plain.specs.Machine.{stuck, Result, stopped, Here, only, pop_any, pop_int, with_int, local_at, go_on, push, branch, set_locals, fault}
 use Rattle.plain.specs.Step.{execute}
 use Rattle.plain.specs.ValueLaws.{value_of, ref_tag, value_ref}
-use Rattle.plain.specs.Windows.{val_at, locs_of, ops_of, length_ops, Sized, Stands, Goes, ops_put, locs_put, going, pushing, storing, choosing, either, faulting, local-at}
+use Rattle.plain.specs.Windows.{Turn, val_at, locs_of, ops_of, length_ops, Sized, Stands, Goes, ops_put, locs_put, going, pushing, storing, choosing, either, faulting, local-at}
 use Rattle.plain.specs.Turns.{By, alike, halted, ops_two, push_low, push_as, store_as, go_low, go_next, store_low, pick_so, pick_not, zero_so, zero_not, faulted, num_as}
 use Rattle.plain.specs.declared.window.Place.{Place}
-use Rattle.plain.specs.declared.window.Turn.{Turn}
+use Rattle.plain.specs.declared.window.Halt.TheVariants.{Stuck}
 
 -- what an instruction does with n operands in the window
 unfoldable pub doing : List ℕ → List ℕ → ℕ → Instr → Program → Here → Result
@@ -227,8 +225,8 @@ module _ (c : Place) (w g : List ℕ) where
       rw (le-leb 2 (suc (suc n)) (omega arith), e, e2, d)
 
   few_two : (i : Instr) (f : Program → Here → Val → Val → List Val → Result) → ((P : Program) (x : Here) → doing w g c.operands i P x ≡ pop_any (ops_of w g c.operands) (λ v r. pop_any r λ u q. f P x v u q))
-      → (r : Turn) → c.operands < 2 → r.end ≡ 6 → r.operands ≡ 0 → Goes c w g w g r (doing w g c.operands i)
-  few_two i f h r l e z = halted c w g r _ (λ P x cells s. h P x ∙ two_by (f P x) c.operands ∙ rw (lt-leb 2 c.operands l)) e z
+      → c.operands < 2 → Goes c w g w g (Err Stuck) (doing w g c.operands i)
+  few_two i f h l = halted c w g _ (λ P x cells s. h P x ∙ two_by (f P x) c.operands ∙ rw (lt-leb 2 c.operands l))
 
   turned_ops : (n : ℕ) → c.operands ≡ suc (suc n) → Sized c w g → ops_of turned_words turned_tags (suc (suc n)) ≡ val_at w g (30 + c.operands) ∷ val_at w g (31 + c.operands) ∷ ops_of w g n
   turned_ops n e z =
@@ -245,21 +243,21 @@ module _ (c : Place) (w g : List ℕ) where
       rw (i, j) (locs_put (slice_set w (32 + n) (slice_index w (32 + suc n))) (slice_set g (32 + n) (slice_index g (32 + suc n))) (suc n) (slice_index w (32 + n)) (slice_index g (32 + n)) c.locals z
       ∙ locs_put w g n (slice_index w (32 + suc n)) (slice_index g (32 + suc n)) c.locals z)
 
-  pub swap_few : (r : Turn) → c.operands < 2 → r.end ≡ 6 → r.operands ≡ 0 → Goes c w g w g r (doing w g c.operands swap)
+  pub swap_few : c.operands < 2 → Goes c w g w g (Err Stuck) (doing w g c.operands swap)
   unfolding doing execute
   swap_few = few_two swap (λ P x v u q. push P x (u ∷ v ∷ q)) (λ P x. refl)
 
-  pub dupx1_few : (r : Turn) → c.operands < 2 → r.end ≡ 6 → r.operands ≡ 0 → Goes c w g w g r (doing w g c.operands dupx1)
+  pub dupx1_few : c.operands < 2 → Goes c w g w g (Err Stuck) (doing w g c.operands dupx1)
   unfolding doing execute
   dupx1_few = few_two dupx1 (λ P x v u q. push P x (v ∷ u ∷ v ∷ q)) (λ P x. refl)
 
-  pub swap_high : (r : Turn) → 2 ≤ c.operands → c.most < c.operands → r.end ≡ 6 → r.operands ≡ 0 → Goes c w g w g r (doing w g c.operands swap)
+  pub swap_high : 2 ≤ c.operands → c.most < c.operands → Goes c w g w g (Err Stuck) (doing w g c.operands swap)
   unfolding doing execute go_on
-  swap_high r h l e z =
+  swap_high h l =
       let d : suc (suc (c.operands - 2)) ≡ c.operands = omega arith in
-      halted c w g r _ (λ P x cells s. two_by (λ v u q. push P x (u ∷ v ∷ q)) c.operands ∙ rw (le-leb 2 c.operands h, length_ops w g (c.operands - 2), d, s.most, lt-leb c.operands c.most l)) e z
+      halted c w g _ (λ P x cells s. two_by (λ v u q. push P x (u ∷ v ∷ q)) c.operands ∙ rw (le-leb 2 c.operands h, length_ops w g (c.operands - 2), d, s.most, lt-leb c.operands c.most l))
 
-  swap_on : 2 ≤ c.operands → c.operands ≤ c.most → Sized c w g → Goes c w g turned_words turned_tags (record { end = 0; at = c.after; operands = c.operands; used = c.used }) (doing w g c.operands swap)
+  swap_on : 2 ≤ c.operands → c.operands ≤ c.most → Sized c w g → Goes c w g turned_words turned_tags (Ok (record { at = c.after; operands = c.operands; used = c.used })) (doing w g c.operands swap)
   unfolding doing execute go_on
   swap_on h l z =
       let d : suc (suc (c.operands - 2)) ≡ c.operands = omega arith in
@@ -267,18 +265,18 @@ module _ (c : Place) (w g : List ℕ) where
       ap (ops_of turned_words turned_tags) (sym d) ∙ turned_ops (c.operands - 2) (sym d) z in
       record {
         is = λ P x cells s. rw (two_by (λ v u q. push P x (u ∷ v ∷ q)) c.operands, le-leb 2 c.operands h, length_ops w g (c.operands - 2), d, s.most, le-leb c.operands c.most l, s.heap, s.locals, s.after, o, turned_locs (c.operands - 2) (sym d) z.locals);
-        kept = λ q. absurd (q refl);
+        kept = λ h e. absurd cc;
         room = z.operands;
       }
 
-  pub dupx1_high : (r : Turn) → 2 ≤ c.operands → c.most ≤ c.operands → r.end ≡ 6 → r.operands ≡ 0 → Goes c w g w g r (doing w g c.operands dupx1)
+  pub dupx1_high : 2 ≤ c.operands → c.most ≤ c.operands → Goes c w g w g (Err Stuck) (doing w g c.operands dupx1)
   unfolding doing execute go_on
-  dupx1_high r h l e z =
+  dupx1_high h l =
       let d : suc (suc (suc (c.operands - 2))) ≡ suc c.operands = omega arith in
-      halted c w g r _ (λ P x cells s. two_by (λ v u q. push P x (v ∷ u ∷ v ∷ q)) c.operands ∙ rw (le-leb 2 c.operands h, length_ops w g (c.operands - 2), d, s.most, lt-leb (suc c.operands) c.most (omega arith))) e z
+      halted c w g _ (λ P x cells s. two_by (λ v u q. push P x (v ∷ u ∷ v ∷ q)) c.operands ∙ rw (le-leb 2 c.operands h, length_ops w g (c.operands - 2), d, s.most, lt-leb (suc c.operands) c.most (omega arith)))
 
   dupx1_on : 2 ≤ c.operands → c.operands < c.most → Sized c w g
-      → Goes c w g (slice_set turned_words (32 + c.operands) top_cell) (slice_set turned_tags (32 + c.operands) top_tag) (record { end = 0; at = c.after; operands = c.operands + 1; used = c.used }) (doing w g c.operands dupx1)
+      → Goes c w g (slice_set turned_words (32 + c.operands) top_cell) (slice_set turned_tags (32 + c.operands) top_tag) (Ok (record { at = c.after; operands = c.operands + 1; used = c.used })) (doing w g c.operands dupx1)
   unfolding doing execute go_on
   dupx1_on h l z =
       let d : suc (suc (c.operands - 2)) ≡ c.operands = omega arith in
@@ -292,17 +290,17 @@ module _ (c : Place) (w g : List ℕ) where
       ops_put turned_words turned_tags c.operands top_cell top_tag hw hg ∙ ap (λ (t : List Val). val_at w g (31 + c.operands) ∷ t) o in
       record {
         is = λ P x cells s. rw (two_by (λ v u q. push P x (v ∷ u ∷ v ∷ q)) c.operands, le-leb 2 c.operands h, length_ops w g (c.operands - 2), d3, s.most, le-leb (suc c.operands) c.most (omega arith), s.heap, s.locals, s.after, n1, p, locs_put turned_words turned_tags c.operands top_cell top_tag c.locals z.locals, turned_locs (c.operands - 2) (sym d) z.locals);
-        kept = λ q. absurd (q refl);
+        kept = λ h e. absurd cc;
         room = omega (arith, z.most);
       }
 
   -- as the code finds them
   pub swap_done : (w' g' : List ℕ) → 2 ≤ c.operands → c.operands ≤ c.most → Sized c w g → w' ≡ turned_words → g' ≡ turned_tags
-      → Goes c w g w' g' (record { end = 0; at = c.after; operands = c.operands; used = c.used }) (doing w g c.operands swap)
+      → Goes c w g w' g' (Ok (record { at = c.after; operands = c.operands; used = c.used })) (doing w g c.operands swap)
   swap_done w' g' h l z e f = rw (e, f) (swap_on h l z)
 
   pub dupx1_done : (w' g' : List ℕ) → 2 ≤ c.operands → c.operands < c.most → Sized c w g → w' ≡ turned_words → g' ≡ turned_tags
-      → Goes c w g (slice_set w' (32 + c.operands) top_cell) (slice_set g' (32 + c.operands) top_tag) (record { end = 0; at = c.after; operands = c.operands + 1; used = c.used }) (doing w g c.operands dupx1)
+      → Goes c w g (slice_set w' (32 + c.operands) top_cell) (slice_set g' (32 + c.operands) top_tag) (Ok (record { at = c.after; operands = c.operands + 1; used = c.used })) (doing w g c.operands dupx1)
   dupx1_done w' g' h l z e f = rw (e, f) (dupx1_on h l z)
 
 pub ruleset turnings = (swap_few, swap_high, swap_done, dupx1_few, dupx1_high, dupx1_done)

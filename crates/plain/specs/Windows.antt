@@ -1,17 +1,16 @@
 -- The running call's window of 64 slots with their tags: locals from 0 on, operands from 32 on; and how it is read back.
-use Rattle.std.specs.Prelude.{◌≡◌, ℕ, zero, suc, ◌+◌, ◌<◌, ◌≤◌, Bool, cond, ◌⊎◌, List, [], ◌∷◌, length, ◌==◌, ◌≢◌, nat_lt, slice_index, slice_index_or, slice_set}
-use Rattle.std.proofs.Math.Path.{refl}
-use Rattle.std.proofs.Common.{subst, sym, ap, ◌∙◌, inl, inr, lt-ltb, le-ltb}
-use native.Mathlib.Omega.{arith}
-use Rattle.std.proofs.Math.Seq.{get_or-set_same, get_or-set_other}
+use Rattle.std.specs.Prelude.{Result as Answer, Ok, Err, ◌≡◌, ℕ, zero, suc, ◌+◌, ◌<◌, ◌≤◌, Bool, cond, ◌⊎◌, List, [], ◌∷◌, length, nat_lt, slice_index, slice_index_or, slice_set}
+use Rattle.std.proofs.Common.{subst, sym, ap, ◌∙◌, inl, inr, lt-ltb, le-ltb, refl, arith, get_or-set_same, get_or-set_other}
 use Rattle.kit.specs.Pick.{side}
 use Rattle.rules.specs.Opcodes.{body}
 use Rattle.reader.specs.Program.{Program}
 use Rattle.plain.specs.Heap.{heap, Val, empty}
-use Rattle.plain.specs.Machine.{heap_full, depth_full, stuck, End, Result, next, stopped, Here, method_at, resumed, go_on, push, branch, set_locals, fault}
+use Rattle.plain.specs.Machine.{heap_full, depth_full, stuck, Result, next, stopped, Here, method_at, resumed, go_on, push, branch, set_locals, fault}
 use Rattle.plain.specs.ValueLaws.{value_of}
 use Rattle.plain.specs.declared.window.Place.{Place}
-use Rattle.plain.specs.declared.window.Turn.{Turn}
+use Rattle.plain.specs.declared.window.Onward.{Onward}
+use Rattle.plain.specs.declared.window.Halt.{Halt}
+use Rattle.plain.specs.declared.window.Halt.TheVariants.{Fault, HeapFull, DepthFull, Stuck}
 
 abbrev pub val_at : List ℕ → List ℕ → ℕ → Val
 val_at w g i = value_of (slice_index g i) (slice_index w i)
@@ -29,14 +28,24 @@ unfoldable pub ops_of : List ℕ → List ℕ → ℕ → List Val
 ops_of w g zero = []
 ops_of w g (suc n) = val_at w g (32 + n) ∷ ops_of w g n
 
--- ---- what a step's answer stands for: on, a fault of a class, or stopped with an end's number
-abbrev pub end_of : ℕ → End
-end_of k = cond (k == 4) heap_full (cond (k == 5) depth_full stuck)
+-- ---- what a step's answer stands for: on, a fault of a class, or stopped
+abbrev pub Turn : Type 0
+Turn = Answer Onward Halt
+
+abbrev pub halt_of : Program → Here → Halt → Result
+halt_of P x (Fault k) = fault P x k
+halt_of P x HeapFull = stopped heap_full
+halt_of P x DepthFull = stopped depth_full
+halt_of P x Stuck = stopped stuck
 
 abbrev pub turn_of : Program → Here → ℕ → List ℕ → List ℕ → List ℕ → Turn → Result
-turn_of P x n w g cells r =
-    cond (r.end == 0) (next (resumed x (heap cells r.used) r.at (locs_of w g n) (ops_of w g r.operands)))
-    (cond (r.end == 7) (fault P x r.at) (stopped (end_of r.end)))
+turn_of P x n w g cells (Ok r) = next (resumed x (heap cells r.used) r.at (locs_of w g n) (ops_of w g r.operands))
+turn_of P x n w g cells (Err h) = halt_of P x h
+
+-- how many operands there are then
+abbrev pub operands_of : Turn → ℕ
+operands_of (Ok r) = r.operands
+operands_of (Err h) = 0
 
 -- the window has its size
 pub record Sized (c : Place) (w g : List ℕ) : Type 0 where
@@ -56,8 +65,8 @@ pub record Stands (P : Program) (x : Here) (c : Place) (w g cells : List ℕ) : 
 -- what a form that leaves the heap alone answers and leaves is what the definitions say, in every such context
 pub record Goes (c : Place) (w g w' g' : List ℕ) (r : Turn) (what : Program → Here → Result) : Type 0 where
   pub is : (P : Program) (x : Here) (cells : List ℕ) → Stands P x c w g cells → turn_of P x c.locals w' g' cells r ≡ what P x
-  pub kept : (r.end ≢ 0) → (w' ≡ w) × (g' ≡ g)
-  pub room : r.operands ≤ 32
+  pub kept : (h : Halt) → r ≡ Err h → (w' ≡ w) × (g' ≡ g)
+  pub room : operands_of r ≤ 32
 
 -- on at an offset with the operands that are there; to the next instruction with a value more
 unfoldable pub going : ℕ → List ℕ → List ℕ → ℕ → Program → Here → Result

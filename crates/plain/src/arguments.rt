@@ -45,12 +45,10 @@ pub fn fit(
     requires { (left + n ≤ 32) × (length w.now ≡ 64) × (length g.now ≡ 64) }
     ensures { result ≡ all_of (arg_fits (lineage t.now kin.at kin.count) t.now of cells.now w.now g.now left) n }
 {
-    let mut i = 0;
-    while i < n {
+    for i in 0..n {
         if !one_fits(t, kin, cells, w, g, of, left, i) {
             return false;
         }
-        i += 1;
     }
     true
 }

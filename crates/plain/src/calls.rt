@@ -6,15 +6,17 @@ ghost use Rattle.plain.specs.CallSteps.{Lent, Gives, resumed_at};
 
 use crate::frames::{self, Frame};
 use crate::values::Value;
-use crate::window::Turn;
+use crate::window::Halt;
 
-// On in a call at its depth, or the number of an end.
+// A call and its depth.
 #[derive(Clone, Copy)]
-pub struct Going {
-    pub end: u32,
+pub struct Running {
     pub depth: usize,
     pub call: Frame,
 }
+
+// On in a call at its depth, or not.
+pub type Going = Result<Running, Halt>;
 
 // The call that waits at depth e, behind its call instruction of that size, with operands more.
 fn resumed(t: &[u8], a: usize, e: usize, size: u32, more: u32) -> Frame
@@ -33,13 +35,12 @@ fn resumed(t: &[u8], a: usize, e: usize, size: u32, more: u32) -> Frame
 }
 
 // Back from depth d without a result, to the call that waits behind an instruction of that size.
-pub fn back(t: &[u8], s: &[u32], g: &[u8], a: usize, d: usize, size: u32) -> Going
+pub fn back(t: &[u8], s: &[u32], g: &[u8], a: usize, d: usize, size: u32) -> Running
     requires { Lent t.now s.now g.now a × (0 < d) × (d ≤ 64) × ((frame_at t.now a (d - 1)).offset + size < 2 ^ 32) × ((frame_at t.now a (d - 1)).operands ≤ 32) }
     ensures { Gives t.now s.now g.now s.now g.now a d size [] result }
 {
     let e = d - 1;
-    Going {
-        end: Turn::ON,
+    Running {
         depth: e,
         call: resumed(t, a, e, size, 0),
     }
@@ -54,7 +55,7 @@ pub fn back_with(
     d: usize,
     size: u32,
     v: Value,
-) -> Going
+) -> Running
     requires { Lent t.now s.old g.old a × (0 < d) × (d ≤ 64) × ((frame_at t.now a (d - 1)).offset + size < 2 ^ 32) × ((frame_at t.now a (d - 1)).operands < 32) × ((frame_at t.now a (d - 1)).locals ≤ 32) }
     ensures { Gives t.now s.old g.old s.new g.new a d size (value_of v.tag v.cell ∷ []) result }
 {
@@ -63,9 +64,5 @@ pub fn back_with(
     let i = 64 * e + 31 + k.operands as usize;
     s[i] = v.cell;
     g[i] = v.tag;
-    Going {
-        end: Turn::ON,
-        depth: e,
-        call: k,
-    }
+    Running { depth: e, call: k }
 }

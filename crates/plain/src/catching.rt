@@ -17,12 +17,6 @@ pub struct Table {
     pub classes: u32,
 }
 
-#[derive(Clone, Copy)]
-pub struct Caught {
-    pub found: bool,
-    pub target: u32,
-}
-
 // The word of entry i of the class's pool; 0 where there is none.
 fn named(t: &[u8], k: usize, i: usize) -> u32
     ensures { result ≡ named_in t.now k i }
@@ -73,24 +67,15 @@ fn catches(s: &[u8], t: &[u8], kin: Kin, x: Table, q: usize, o: usize, c: u32) -
 }
 
 // The first such entry's target.
-pub fn catcher(s: &[u8], t: &[u8], kin: Kin, x: Table, o: usize, c: u32) -> Caught
+pub fn catcher(s: &[u8], t: &[u8], kin: Kin, x: Table, o: usize, c: u32) -> Option<u32>
     requires { (x.at < 2 ^ 62) × (x.entries < 65536) }
     ensures { caught_of result ≡ catcher_by (lineage t.now kin.at kin.count) (caught_in t.now x.class x.classes) o c (handlers_from s.now x.entries x.at) }
 {
-    let mut q = x.at;
-    let mut left = x.entries;
-    while 0 < left {
+    for i in 0..x.entries {
+        let q = x.at + 8 * i;
         if catches(s, t, kin, x, q, o, c) {
-            return Caught {
-                found: true,
-                target: u2_at(s, q + 4) as u32,
-            };
+            return Some(u2_at(s, q + 4) as u32);
         }
-        q += 8;
-        left -= 1;
     }
-    Caught {
-        found: false,
-        target: 0,
-    }
+    None
 }

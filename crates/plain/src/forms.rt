@@ -1,14 +1,14 @@
 // The instructions that touch the running call's window alone.
 ghost use Rattle.std.specs.Prelude.{◌≡◌, ◌+◌, ◌<◌, ◌≤◌, length};
 ghost use Rattle.rules.specs.Instruction.{nop, aconstnull, pop, dup, dupx1, swap, ineg, iconst, iload, aload, istore, astore, goto, iinc, ibin, idiv, ifint, ificmp};
-ghost use Rattle.rules.specs.Opcodes.{test_of};
-ghost use Rattle.rules.specs.InstructionWords.{op_of, division_of};
+ghost use Rattle.rules.specs.InstructionWords.{op_of, division_of, asked_of};
 ghost use Rattle.plain.specs.Windows.{Sized, Goes};
 ghost use Rattle.plain.specs.WindowForms.{doing, on_top, two_ints, in_local, turned_words, turned_tags};
 
 use crate::integers;
 use crate::values::Value;
-use crate::window::{self, Place, Turn};
+use crate::window::{self, Halt, Onward, Place, Turn};
+use rules::instruction::{Division, Op, Test};
 
 // Whether an operand of that kind is on top.
 pub fn on_top(g: &[u8], c: Place, kind: u8) -> bool
@@ -96,9 +96,9 @@ pub fn pop(w: &[u32], g: &[u8], c: Place) -> Turn
     ensures { Goes c w.now g.now w.now g.now result (doing w.now g.now c.operands pop) }
 {
     if c.operands < 1 {
-        return window::stuck(c);
+        return Err(Halt::Stuck);
     }
-    let d = window::lowered(c, 1);
+    let d = c.lowered(1);
     window::go(w, g, d, d.after)
 }
 
@@ -107,7 +107,7 @@ pub fn dup(w: &mut [u32], g: &mut [u8], c: Place) -> Turn
     ensures { Goes c w.old g.old w.new g.new result (doing w.old g.old c.operands dup) }
 {
     if c.operands < 1 {
-        return window::stuck(c);
+        return Err(Halt::Stuck);
     }
     let i = 31 + c.operands;
     let v = Value {
@@ -122,68 +122,68 @@ pub fn ineg(w: &mut [u32], g: &mut [u8], c: Place) -> Turn
     ensures { Goes c w.old g.old w.new g.new result (doing w.old g.old c.operands ineg) }
 {
     if !on_top(g, c, Value::NUM) {
-        return window::stuck(c);
+        return Err(Halt::Stuck);
     }
     let i = 31 + c.operands;
     let v = Value::num(integers::ineg(w[i]));
-    window::push(w, g, window::lowered(c, 1), v)
+    window::push(w, g, c.lowered(1), v)
 }
 
-pub fn ibin(w: &mut [u32], g: &mut [u8], c: Place, f: u8) -> Turn
+pub fn ibin(w: &mut [u32], g: &mut [u8], c: Place, f: Op) -> Turn
     requires { Sized c w.old g.old }
     ensures { Goes c w.old g.old w.new g.new result (doing w.old g.old c.operands (ibin (op_of f))) }
 {
     if !two_ints(g, c) {
-        return window::stuck(c);
+        return Err(Halt::Stuck);
     }
     let i = 30 + c.operands;
     let j = 31 + c.operands;
     let v = Value::num(integers::binary(f, w[i], w[j]));
-    window::push(w, g, window::lowered(c, 2), v)
+    window::push(w, g, c.lowered(2), v)
 }
 
-pub fn idiv(w: &mut [u32], g: &mut [u8], c: Place, f: u8) -> Turn
+pub fn idiv(w: &mut [u32], g: &mut [u8], c: Place, f: Division) -> Turn
     requires { Sized c w.old g.old }
     ensures { Goes c w.old g.old w.new g.new result (doing w.old g.old c.operands (idiv (division_of f))) }
 {
     if !two_ints(g, c) {
-        return window::stuck(c);
+        return Err(Halt::Stuck);
     }
     let i = 30 + c.operands;
     let j = 31 + c.operands;
     let b = w[j];
     if b == 0 {
-        return window::fault(c, 4);
+        return Err(Halt::Fault(4));
     }
     let v = Value::num(integers::divide(f, w[i], b));
-    window::push(w, g, window::lowered(c, 2), v)
+    window::push(w, g, c.lowered(2), v)
 }
 
-pub fn if_int(w: &[u32], g: &[u8], c: Place, f: u8, t: u16) -> Turn
+pub fn if_int(w: &[u32], g: &[u8], c: Place, f: Test, t: u16) -> Turn
     requires { Sized c w.now g.now }
-    ensures { Goes c w.now g.now w.now g.now result (doing w.now g.now c.operands (ifint (test_of f) t)) }
+    ensures { Goes c w.now g.now w.now g.now result (doing w.now g.now c.operands (ifint (asked_of f) t)) }
 {
     if !on_top(g, c, Value::NUM) {
-        return window::stuck(c);
+        return Err(Halt::Stuck);
     }
     let i = 31 + c.operands;
-    let d = window::lowered(c, 1);
+    let d = c.lowered(1);
     if integers::test(f, w[i], 0) {
         return window::go(w, g, d, t as u32);
     }
     window::go(w, g, d, d.after)
 }
 
-pub fn if_two(w: &[u32], g: &[u8], c: Place, f: u8, t: u16) -> Turn
+pub fn if_two(w: &[u32], g: &[u8], c: Place, f: Test, t: u16) -> Turn
     requires { Sized c w.now g.now }
-    ensures { Goes c w.now g.now w.now g.now result (doing w.now g.now c.operands (ificmp (test_of f) t)) }
+    ensures { Goes c w.now g.now w.now g.now result (doing w.now g.now c.operands (ificmp (asked_of f) t)) }
 {
     if !two_ints(g, c) {
-        return window::stuck(c);
+        return Err(Halt::Stuck);
     }
     let i = 30 + c.operands;
     let j = 31 + c.operands;
-    let d = window::lowered(c, 2);
+    let d = c.lowered(2);
     if integers::test(f, w[i], w[j]) {
         return window::go(w, g, d, t as u32);
     }
@@ -196,7 +196,7 @@ pub fn load_int(w: &mut [u32], g: &mut [u8], c: Place, j: u16) -> Turn
 {
     let i = j as usize;
     if !in_local(g, c, i, Value::NUM) {
-        return window::stuck(c);
+        return Err(Halt::Stuck);
     }
     let v = Value::num(w[i]);
     window::push(w, g, c, v)
@@ -208,7 +208,7 @@ pub fn load_ref(w: &mut [u32], g: &mut [u8], c: Place, j: u16) -> Turn
 {
     let i = j as usize;
     if !in_local(g, c, i, Value::REF) {
-        return window::stuck(c);
+        return Err(Halt::Stuck);
     }
     let v = Value::reference(w[i]);
     window::push(w, g, c, v)
@@ -219,11 +219,11 @@ pub fn store_int(w: &mut [u32], g: &mut [u8], c: Place, j: u16) -> Turn
     ensures { Goes c w.old g.old w.new g.new result (doing w.old g.old c.operands (istore j)) }
 {
     if !on_top(g, c, Value::NUM) {
-        return window::stuck(c);
+        return Err(Halt::Stuck);
     }
     let i = 31 + c.operands;
     let v = Value::num(w[i]);
-    window::put_local(w, g, window::lowered(c, 1), j as usize, v)
+    window::put_local(w, g, c.lowered(1), j as usize, v)
 }
 
 pub fn store_ref(w: &mut [u32], g: &mut [u8], c: Place, j: u16) -> Turn
@@ -231,11 +231,11 @@ pub fn store_ref(w: &mut [u32], g: &mut [u8], c: Place, j: u16) -> Turn
     ensures { Goes c w.old g.old w.new g.new result (doing w.old g.old c.operands (astore j)) }
 {
     if !on_top(g, c, Value::REF) {
-        return window::stuck(c);
+        return Err(Halt::Stuck);
     }
     let i = 31 + c.operands;
     let v = Value::reference(w[i]);
-    window::put_local(w, g, window::lowered(c, 1), j as usize, v)
+    window::put_local(w, g, c.lowered(1), j as usize, v)
 }
 
 pub fn increment(w: &mut [u32], g: &mut [u8], c: Place, j: u16, k: u32) -> Turn
@@ -244,7 +244,7 @@ pub fn increment(w: &mut [u32], g: &mut [u8], c: Place, j: u16, k: u32) -> Turn
 {
     let i = j as usize;
     if !in_local(g, c, i, Value::NUM) {
-        return window::stuck(c);
+        return Err(Halt::Stuck);
     }
     let v = Value::num(integers::iadd(w[i], k));
     window::put_local(w, g, c, i, v)
@@ -255,18 +255,17 @@ pub fn swap(w: &mut [u32], g: &mut [u8], c: Place) -> Turn
     ensures { Goes c w.old g.old w.new g.new result (doing w.old g.old c.operands swap) }
 {
     if c.operands < 2 {
-        return window::stuck(c);
+        return Err(Halt::Stuck);
     }
     if c.most < c.operands {
-        return window::stuck(c);
+        return Err(Halt::Stuck);
     }
     turn(w, g, c);
-    Turn {
-        end: Turn::ON,
+    Ok(Onward {
         at: c.after,
         operands: c.operands,
         used: c.used,
-    }
+    })
 }
 
 // The top operand goes under the next one too.
@@ -275,10 +274,10 @@ pub fn dup_under(w: &mut [u32], g: &mut [u8], c: Place) -> Turn
     ensures { Goes c w.old g.old w.new g.new result (doing w.old g.old c.operands dupx1) }
 {
     if c.operands < 2 {
-        return window::stuck(c);
+        return Err(Halt::Stuck);
     }
     if c.most <= c.operands {
-        return window::stuck(c);
+        return Err(Halt::Stuck);
     }
     let j = 31 + c.operands;
     let a = w[j];
@@ -287,10 +286,9 @@ pub fn dup_under(w: &mut [u32], g: &mut [u8], c: Place) -> Turn
     let i = 32 + c.operands;
     w[i] = a;
     g[i] = k;
-    Turn {
-        end: Turn::ON,
+    Ok(Onward {
         at: c.after,
         operands: c.operands + 1,
         used: c.used,
-    }
+    })
 }

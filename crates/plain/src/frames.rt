@@ -35,11 +35,9 @@ fn carry(s: &mut [u32], g: &mut [u8], from: usize, to: usize, n: usize)
     requires { (from + n ≤ to) × (to + n ≤ length s.old) × (to + n ≤ length g.old) }
     ensures { Carried s.old s.new from to n × Carried g.old g.new from to n }
 {
-    let mut i = 0;
-    while i < n {
+    for i in 0..n {
         s[to + i] = s[from + i];
         g[to + i] = g[from + i];
-        i += 1;
     }
 }
 
@@ -48,12 +46,8 @@ fn wipe(s: &mut [u32], g: &mut [u8], to: usize, n: usize)
     requires { (to + n ≤ length s.old) × (to + n ≤ length g.old) }
     ensures { Wiped s.old s.new to n × Wiped g.old g.new to n }
 {
-    let mut i = 0;
-    while i < n {
-        s[to + i] = 0;
-        g[to + i] = 0;
-        i += 1;
-    }
+    s[to..to + n].fill(0);
+    g[to..to + n].fill(0);
 }
 
 // The next window's m locals: the n operands above the first `left` of depth d, then empty ones.

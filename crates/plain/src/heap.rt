@@ -80,11 +80,7 @@ fn clear(cells: &mut [u32], a: usize, n: usize)
     requires { a + n ≤ length cells.old }
     ensures { cells.new ≡ cleared cells.old a n }
 {
-    let mut i = 0;
-    while i < n {
-        cells[a + i] = 0;
-        i += 1;
-    }
+    cells[a..a + n].fill(0);
 }
 
 fn put_header(cells: &mut [u32], a: usize, base: u32, depth: u32, n: u32, ready: u32)

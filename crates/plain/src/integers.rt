@@ -1,10 +1,11 @@
 // 32-bit integers as two's complement bits in a u32: those from 2 ^ 31 on read as negative.
 ghost use Rattle.std.specs.Prelude.{◌≡◌, ◌^◌, ◌<◌, ◌≤◌, not};
 ghost use Rattle.rules.specs.Instruction.{add, sub, mul, shl, shr, ushr, and, or, xor, quotient, remainder};
-ghost use Rattle.rules.specs.InstructionWords.{op_of, division_of};
-ghost use Rattle.rules.specs.Opcodes.{test_of};
+ghost use Rattle.rules.specs.InstructionWords.{op_of, division_of, asked_of};
 ghost use Rattle.plain.specs.Integers.{negated, compute, divided, less, holds, negative};
 ghost use Rattle.plain.specs.IntegerLaws.{magnitude_of, biased_of};
+
+use rules::instruction::{Division, Op, Test};
 
 pub fn iadd(a: u32, b: u32) -> u32
     ensures { result ≡ compute add a b }
@@ -144,44 +145,44 @@ pub fn negative(a: u32) -> bool
     0x8000_0000 <= a
 }
 
-// An operation of two integers by its number.
-pub fn binary(op: u8, a: u32, b: u32) -> u32
+// An operation of two integers.
+pub fn binary(op: Op, a: u32, b: u32) -> u32
     ensures { result ≡ compute (op_of op) a b }
 {
     match op {
-        1 => isub(a, b),
-        2 => imul(a, b),
-        3 => ishl(a, b),
-        4 => ishr(a, b),
-        5 => iushr(a, b),
-        6 => iand(a, b),
-        7 => ior(a, b),
-        8 => ixor(a, b),
-        _ => iadd(a, b),
+        Op::Add => iadd(a, b),
+        Op::Sub => isub(a, b),
+        Op::Mul => imul(a, b),
+        Op::Shl => ishl(a, b),
+        Op::Shr => ishr(a, b),
+        Op::Ushr => iushr(a, b),
+        Op::And => iand(a, b),
+        Op::Or => ior(a, b),
+        Op::Xor => ixor(a, b),
     }
 }
 
 // A division by a divisor that the caller has tested.
-pub fn divide(op: u8, a: u32, b: u32) -> u32
+pub fn divide(op: Division, a: u32, b: u32) -> u32
     requires { 0 < b }
     ensures { result ≡ divided (division_of op) a b }
 {
-    if op == 0 {
-        return idiv(a, b);
+    match op {
+        Division::Quotient => idiv(a, b),
+        Division::Remainder => irem(a, b),
     }
-    irem(a, b)
 }
 
-// A test of two integers by its number.
-pub fn test(op: u8, a: u32, b: u32) -> bool
-    ensures { result ≡ holds (test_of op) a b }
+// A test of two integers.
+pub fn test(asked: Test, a: u32, b: u32) -> bool
+    ensures { result ≡ holds (asked_of asked) a b }
 {
-    match op {
-        1 => a != b,
-        2 => less(a, b),
-        3 => not_less(a, b),
-        4 => less(b, a),
-        5 => not_less(b, a),
-        _ => a == b,
+    match asked {
+        Test::Eq => a == b,
+        Test::Ne => a != b,
+        Test::Lt => less(a, b),
+        Test::Ge => not_less(a, b),
+        Test::Gt => less(b, a),
+        Test::Le => not_less(b, a),
     }
 }

@@ -1,6 +1,5 @@
 // The instructions that read or write the heap.
-ghost use Rattle.std.specs.Prelude.{◌≡◌, ◌+◌, ◌<◌, ◌≤◌, length, if◌then◌else◌};
-ghost use Rattle.std.specs.Bool.{beq};
+ghost use Rattle.std.specs.Prelude.{OnOk, ◌≡◌, ◌+◌, ◌<◌, ◌≤◌, length};
 ghost use Rattle.classfiles.specs.Limits.{max_heap};
 ghost use Rattle.reader.specs.Program.{layout};
 ghost use Rattle.rules.specs.Instruction.{arraylength, iaload, aaload, iastore, aastore, getfield, putfield, new, newarray, checkcast, instanceof, ifacmp, ifnull};
@@ -15,68 +14,64 @@ ghost use Rattle.plain.specs.HeapTurns.{Steps, Writes, making, AnyProgram};
 ghost use Rattle.plain.specs.HeapForms.{Checked, reaching, arraying, indexing, loading, depth_in};
 
 use crate::values::{self, RunType, Value};
-use crate::window::{self, Place, Turn};
+use crate::window::{self, Halt, Onward, Place, Turn};
 use crate::{heap, integers, objects};
 use rules::instruction::Field;
 use rules::types::{Kin, Ty};
 
 // Whether v is a receiver of that type: stuck where it does not fit, a fault where it is null.
-fn reach(t: &[u8], kin: Kin, cells: &[u32], c: Place, v: Value, asked: RunType) -> Turn
-    ensures { Checked (λ P. Parents P t.now kin.at kin.count) c cells.now result (reaching (lineage t.now kin.at kin.count) cells.now (ref_of asked.base asked.depth) (value_of v.tag v.cell)) × ((result.end ≡ 0) → 0 < to_cell (value_of v.tag v.cell)) }
+fn reach(t: &[u8], kin: Kin, cells: &[u32], c: Place, v: Value, asked: RunType) -> Result<(), Halt>
+    ensures { Checked (λ P. Parents P t.now kin.at kin.count) c cells.now result (reaching (lineage t.now kin.at kin.count) cells.now (ref_of asked.base asked.depth) (value_of v.tag v.cell)) × OnOk result (0 < to_cell (value_of v.tag v.cell)) }
 {
     if !values::refers_to(t, kin, cells, v, asked) {
-        return window::stuck(c);
+        return Err(Halt::Stuck);
     }
     if v.to_cell() == 0 {
-        return window::fault(c, 10);
+        return Err(Halt::Fault(10));
     }
-    window::fine(c)
+    Ok(())
 }
 
 // Whether v is an array: stuck where it is something else, a fault where it is null. Arrays are Objects whatever their base, so that no
 // parents are asked.
-fn found(t: &[u8], kin: Kin, cells: &[u32], c: Place, v: Value) -> Turn
-    ensures { Checked (λ P. Parents P t.now kin.at kin.count) c cells.now result (arraying (lineage t.now kin.at kin.count) cells.now (value_of v.tag v.cell)) × ((result.end ≡ 0) → (0 < to_cell (value_of v.tag v.cell)) × (0 < depth_in cells.now (value_of v.tag v.cell))) }
+fn found(t: &[u8], kin: Kin, cells: &[u32], c: Place, v: Value) -> Result<(), Halt>
+    ensures { Checked (λ P. Parents P t.now kin.at kin.count) c cells.now result (arraying (lineage t.now kin.at kin.count) cells.now (value_of v.tag v.cell)) × OnOk result ((0 < to_cell (value_of v.tag v.cell)) × (0 < depth_in cells.now (value_of v.tag v.cell))) }
 {
     if !objects::is_usable(cells, v) {
-        return window::stuck(c);
+        return Err(Halt::Stuck);
     }
     let n = v.to_cell();
     if n == 0 {
-        return window::fault(c, 10);
+        return Err(Halt::Fault(10));
     }
     if heap::depth_at(cells, n - 1) == 0 {
-        return window::stuck(c);
+        return Err(Halt::Stuck);
     }
-    window::fine(c)
-}
-
-fn same(a: bool, b: bool) -> bool
-    ensures { result ≡ beq a b }
-{
-    if a {
-        return b;
-    }
-    !b
+    Ok(())
 }
 
 // Whether v is an array of ints, or of references, that has an element i.
-fn index(t: &[u8], kin: Kin, cells: &[u32], c: Place, v: Value, ints: bool, i: u32) -> Turn
-    ensures { Checked (λ P. Parents P t.now kin.at kin.count) c cells.now result (indexing (lineage t.now kin.at kin.count) cells.now ints (value_of v.tag v.cell) i) × ((result.end ≡ 0) → (0 < to_cell (value_of v.tag v.cell)) × (0 < depth_in cells.now (value_of v.tag v.cell))) }
+fn index(
+    t: &[u8],
+    kin: Kin,
+    cells: &[u32],
+    c: Place,
+    v: Value,
+    ints: bool,
+    i: u32,
+) -> Result<(), Halt>
+    ensures { Checked (λ P. Parents P t.now kin.at kin.count) c cells.now result (indexing (lineage t.now kin.at kin.count) cells.now ints (value_of v.tag v.cell) i) × OnOk result ((0 < to_cell (value_of v.tag v.cell)) × (0 < depth_in cells.now (value_of v.tag v.cell))) }
 {
-    let r = found(t, kin, cells, c, v);
-    if r.end != 0 {
-        return r;
-    }
+    found(t, kin, cells, c, v)?;
     let a = v.to_cell() - 1;
     let of = values::type_at(cells, a);
-    if !same(ints, of.element().is_int()) {
-        return window::stuck(c);
+    if ints != of.element().is_int() {
+        return Err(Halt::Stuck);
     }
     if heap::size_at(cells, a) <= i {
-        return window::fault(c, 8);
+        return Err(Halt::Fault(8));
     }
-    r
+    Ok(())
 }
 
 pub fn length(t: &[u8], kin: Kin, cells: &[u32], w: &mut [u32], g: &mut [u8], c: Place) -> Turn
@@ -84,19 +79,16 @@ pub fn length(t: &[u8], kin: Kin, cells: &[u32], w: &mut [u32], g: &mut [u8], c:
     ensures { Steps (λ P. Parents P t.now kin.at kin.count) c w.old g.old cells.now w.new g.new cells.now result (doing w.old g.old c.operands arraylength) }
 {
     if c.operands < 1 {
-        return window::stuck(c);
+        return Err(Halt::Stuck);
     }
     let i = 31 + c.operands;
     let v = Value {
         tag: g[i],
         cell: w[i],
     };
-    let r = found(t, kin, cells, c, v);
-    if r.end != 0 {
-        return r;
-    }
+    found(t, kin, cells, c, v)?;
     let n = Value::num(heap::size_at(cells, v.to_cell() - 1));
-    window::push(w, g, window::lowered(c, 1), n)
+    window::push(w, g, c.lowered(1), n)
 }
 
 pub fn getfield(
@@ -112,7 +104,7 @@ pub fn getfield(
     ensures { Steps (λ P. Parents P t.now kin.at kin.count) c w.old g.old cells.now w.new g.new cells.now result (doing w.old g.old c.operands (getfield (words.field_of f))) }
 {
     if c.operands < 1 {
-        return window::stuck(c);
+        return Err(Halt::Stuck);
     }
     let i = 31 + c.operands;
     let v = Value {
@@ -123,13 +115,10 @@ pub fn getfield(
         base: f.named as u32,
         depth: 0,
     };
-    let r = reach(t, kin, cells, c, v, asked);
-    if r.end != 0 {
-        return r;
-    }
+    reach(t, kin, cells, c, v, asked)?;
     let a = heap::element(cells, v.to_cell() - 1, f.slot as u32);
     let x = Value::from_cell(values::described(f.of), a);
-    window::push(w, g, window::lowered(c, 1), x)
+    window::push(w, g, c.lowered(1), x)
 }
 
 fn load(
@@ -145,7 +134,7 @@ fn load(
     ensures { Steps (λ P. Parents P t.now kin.at kin.count) c w.old g.old cells.now w.new g.new cells.now result (loading t.now kin.at kin.count c w.old g.old cells.now ints) }
 {
     if c.operands < 2 {
-        return window::stuck(c);
+        return Err(Halt::Stuck);
     }
     let i = 31 + c.operands;
     let x = Value {
@@ -158,16 +147,13 @@ fn load(
         cell: w[j],
     };
     if !x.is_num() {
-        return window::stuck(c);
+        return Err(Halt::Stuck);
     }
-    let r = index(t, kin, cells, c, v, ints, x.to_cell());
-    if r.end != 0 {
-        return r;
-    }
+    index(t, kin, cells, c, v, ints, x.to_cell())?;
     let a = v.to_cell() - 1;
     let of = values::type_at(cells, a);
     let y = Value::from_cell(of.element(), heap::element(cells, a, x.to_cell()));
-    window::push(w, g, window::lowered(c, 2), y)
+    window::push(w, g, c.lowered(2), y)
 }
 
 pub fn iaload(t: &[u8], kin: Kin, cells: &[u32], w: &mut [u32], g: &mut [u8], c: Place) -> Turn
@@ -190,15 +176,14 @@ fn write(cells: &mut [u32], c: Place, n: usize, a: u32, i: u32, v: u32) -> Turn
     ensures { Writes c n cells.old cells.new result (element_at a i) v }
 {
     if c.most < n {
-        return window::stuck(c);
+        return Err(Halt::Stuck);
     }
     heap::set_element(cells, a, i, v);
-    Turn {
-        end: Turn::ON,
+    Ok(Onward {
         at: c.after,
         operands: n,
         used: c.used,
-    }
+    })
 }
 
 pub fn iastore(t: &[u8], kin: Kin, cells: &mut [u32], w: &[u32], g: &[u8], c: Place) -> Turn
@@ -206,7 +191,7 @@ pub fn iastore(t: &[u8], kin: Kin, cells: &mut [u32], w: &[u32], g: &[u8], c: Pl
     ensures { Steps (λ P. Parents P t.now kin.at kin.count) c w.now g.now cells.old w.now g.now cells.new result (doing w.now g.now c.operands iastore) }
 {
     if c.operands < 3 {
-        return window::stuck(c);
+        return Err(Halt::Stuck);
     }
     let i = 31 + c.operands;
     let x = Value {
@@ -224,15 +209,12 @@ pub fn iastore(t: &[u8], kin: Kin, cells: &mut [u32], w: &[u32], g: &[u8], c: Pl
         cell: w[k],
     };
     if !x.is_num() {
-        return window::stuck(c);
+        return Err(Halt::Stuck);
     }
     if !y.is_num() {
-        return window::stuck(c);
+        return Err(Halt::Stuck);
     }
-    let r = index(t, kin, cells, c, v, true, y.to_cell());
-    if r.end != 0 {
-        return r;
-    }
+    index(t, kin, cells, c, v, true, y.to_cell())?;
     write(
         cells,
         c,
@@ -248,7 +230,7 @@ pub fn aastore(t: &[u8], kin: Kin, cells: &mut [u32], w: &[u32], g: &[u8], c: Pl
     ensures { Steps (λ P. Parents P t.now kin.at kin.count) c w.now g.now cells.old w.now g.now cells.new result (doing w.now g.now c.operands aastore) }
 {
     if c.operands < 3 {
-        return window::stuck(c);
+        return Err(Halt::Stuck);
     }
     let i = 31 + c.operands;
     let x = Value {
@@ -267,19 +249,16 @@ pub fn aastore(t: &[u8], kin: Kin, cells: &mut [u32], w: &[u32], g: &[u8], c: Pl
     };
     let asked = RunType { base: 0, depth: 0 };
     if !values::refers_to(t, kin, cells, x, asked) {
-        return window::stuck(c);
+        return Err(Halt::Stuck);
     }
     if !y.is_num() {
-        return window::stuck(c);
+        return Err(Halt::Stuck);
     }
-    let r = index(t, kin, cells, c, v, false, y.to_cell());
-    if r.end != 0 {
-        return r;
-    }
+    index(t, kin, cells, c, v, false, y.to_cell())?;
     let a = v.to_cell() - 1;
     let of = values::type_at(cells, a);
     if !values::value_fits(t, kin, cells, x, of.element()) {
-        return window::fault(c, 5);
+        return Err(Halt::Fault(5));
     }
     write(cells, c, c.operands - 3, a, y.to_cell(), x.to_cell())
 }
@@ -297,7 +276,7 @@ pub fn putfield(
     ensures { Steps (λ P. Parents P t.now kin.at kin.count) c w.now g.now cells.old w.now g.now cells.new result (doing w.now g.now c.operands (putfield (words.field_of f))) }
 {
     if c.operands < 2 {
-        return window::stuck(c);
+        return Err(Halt::Stuck);
     }
     let i = 31 + c.operands;
     let x = Value {
@@ -310,16 +289,13 @@ pub fn putfield(
         cell: w[j],
     };
     if !values::value_fits(t, kin, cells, x, values::described(f.of)) {
-        return window::stuck(c);
+        return Err(Halt::Stuck);
     }
     let asked = RunType {
         base: f.named as u32,
         depth: 0,
     };
-    let r = reach(t, kin, cells, c, v, asked);
-    if r.end != 0 {
-        return r;
-    }
+    reach(t, kin, cells, c, v, asked)?;
     write(
         cells,
         c,
@@ -343,7 +319,7 @@ pub fn checkcast(
     ensures { Steps (λ P. Parents P t.now kin.at kin.count) c w.old g.old cells.now w.new g.new cells.now result (doing w.old g.old c.operands (checkcast (words.ref_of of.word))) }
 {
     if c.operands < 1 {
-        return window::stuck(c);
+        return Err(Halt::Stuck);
     }
     let i = 31 + c.operands;
     let v = Value {
@@ -352,12 +328,12 @@ pub fn checkcast(
     };
     let asked = RunType { base: 0, depth: 0 };
     if !values::refers_to(t, kin, cells, v, asked) {
-        return window::stuck(c);
+        return Err(Halt::Stuck);
     }
     if !values::refers_to(t, kin, cells, v, values::named(of)) {
-        return window::fault(c, 6);
+        return Err(Halt::Fault(6));
     }
-    window::push(w, g, window::lowered(c, 1), v)
+    window::push(w, g, c.lowered(1), v)
 }
 
 pub fn if_null(
@@ -374,7 +350,7 @@ pub fn if_null(
     ensures { Steps (λ P. Parents P t.now kin.at kin.count) c w.now g.now cells.now w.now g.now cells.now result (doing w.now g.now c.operands (ifnull e o)) }
 {
     if c.operands < 1 {
-        return window::stuck(c);
+        return Err(Halt::Stuck);
     }
     let i = 31 + c.operands;
     let v = Value {
@@ -383,10 +359,10 @@ pub fn if_null(
     };
     let asked = RunType { base: 0, depth: 0 };
     if !values::refers_to(t, kin, cells, v, asked) {
-        return window::stuck(c);
+        return Err(Halt::Stuck);
     }
-    let d = window::lowered(c, 1);
-    if same(e, v.to_cell() == 0) {
+    let d = c.lowered(1);
+    if e == (v.to_cell() == 0) {
         return window::go(w, g, d, o as u32);
     }
     window::go(w, g, d, d.after)
@@ -406,7 +382,7 @@ pub fn if_same(
     ensures { Steps (λ P. Parents P t.now kin.at kin.count) c w.now g.now cells.now w.now g.now cells.now result (doing w.now g.now c.operands (ifacmp e o)) }
 {
     if c.operands < 2 {
-        return window::stuck(c);
+        return Err(Halt::Stuck);
     }
     let i = 31 + c.operands;
     let x = Value {
@@ -420,13 +396,13 @@ pub fn if_same(
     };
     let asked = RunType { base: 0, depth: 0 };
     if !values::refers_to(t, kin, cells, x, asked) {
-        return window::stuck(c);
+        return Err(Halt::Stuck);
     }
     if !values::refers_to(t, kin, cells, y, asked) {
-        return window::stuck(c);
+        return Err(Halt::Stuck);
     }
-    let d = window::lowered(c, 2);
-    if same(e, y.to_cell() == x.to_cell()) {
+    let d = c.lowered(2);
+    if e == (y.to_cell() == x.to_cell()) {
         return window::go(w, g, d, o as u32);
     }
     window::go(w, g, d, d.after)
@@ -446,21 +422,20 @@ fn make(
     ensures { Steps AnyProgram c w.old g.old cells.old w.new g.new cells.new result (making (ref_of of.base of.depth) n ready w.old g.old c.operands) }
 {
     if !heap::has_room(cells, c.used, n) {
-        return window::full(c);
+        return Err(Halt::HeapFull);
     }
     if c.most <= c.operands {
-        return window::stuck(c);
+        return Err(Halt::Stuck);
     }
     let u = heap::allocate(cells, c.used, of.base, of.depth, n, ready);
     let i = 32 + c.operands;
     w[i] = c.used + 1;
     g[i] = Value::REF;
-    Turn {
-        end: Turn::ON,
+    Ok(Onward {
         at: c.after,
         operands: c.operands + 1,
         used: u,
-    }
+    })
 }
 
 pub fn newarray(
@@ -476,7 +451,7 @@ pub fn newarray(
     ensures { Steps (λ P. Parents P t.now kin.at kin.count) c w.old g.old cells.old w.new g.new cells.new result (doing w.old g.old c.operands (newarray (words.element_of of.word))) }
 {
     if c.operands < 1 {
-        return window::stuck(c);
+        return Err(Halt::Stuck);
     }
     let i = 31 + c.operands;
     let v = Value {
@@ -484,30 +459,13 @@ pub fn newarray(
         cell: w[i],
     };
     if !v.is_num() {
-        return window::stuck(c);
+        return Err(Halt::Stuck);
     }
     let n = v.to_cell();
     if integers::negative(n) {
-        return window::fault(c, 9);
+        return Err(Halt::Fault(9));
     }
-    make(
-        cells,
-        w,
-        g,
-        window::lowered(c, 1),
-        values::array_of(of),
-        n,
-        1,
-    )
-}
-
-fn bit(b: bool) -> u32
-    ensures { result ≡ (if b then 1 else 0) }
-{
-    if b {
-        return 1;
-    }
-    0
+    make(cells, w, g, c.lowered(1), values::array_of(of), n, 1)
 }
 
 pub fn instanceof(
@@ -523,7 +481,7 @@ pub fn instanceof(
     ensures { Steps (λ P. Parents P t.now kin.at kin.count) c w.old g.old cells.now w.new g.new cells.now result (doing w.old g.old c.operands (instanceof (words.ref_of of.word))) }
 {
     if c.operands < 1 {
-        return window::stuck(c);
+        return Err(Halt::Stuck);
     }
     let i = 31 + c.operands;
     let v = Value {
@@ -531,15 +489,15 @@ pub fn instanceof(
         cell: w[i],
     };
     if !objects::is_usable(cells, v) {
-        return window::stuck(c);
+        return Err(Halt::Stuck);
     }
-    let d = window::lowered(c, 1);
+    let d = c.lowered(1);
     let r = v.to_cell();
     if r == 0 {
         return window::push(w, g, d, Value::num(0));
     }
     let b = values::type_fits(t, kin, values::type_at(cells, r - 1), values::named(of));
-    window::push(w, g, d, Value::num(bit(b)))
+    window::push(w, g, d, Value::num(u32::from(b)))
 }
 
 // An object of the class k, which has so many fields.
@@ -555,7 +513,7 @@ pub fn new_object(
     ensures { Steps (λ P. size ≡ length (layout P k)) c w.old g.old cells.old w.new g.new cells.new result (doing w.old g.old c.operands (new k)) }
 {
     if c.most <= c.operands {
-        return window::stuck(c);
+        return Err(Halt::Stuck);
     }
     let of = RunType {
         base: k as u32,

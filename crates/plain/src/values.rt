@@ -42,7 +42,7 @@ impl RunType {
     }
 }
 
-// A slot: an empty one, an int's bits or a reference.
+// A slot: an empty one, an int's bits or a reference. The tag is a byte, as it stands in the tags that C lends.
 #[derive(Clone, Copy)]
 pub struct Value {
     pub tag: u8,

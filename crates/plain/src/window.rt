@@ -1,5 +1,5 @@
 // The running call's window: 64 slots with their tags, locals from 0 on, operands from 32 on.
-ghost use Rattle.std.specs.Prelude.{◌≡◌, ◌+◌, ◌-◌, ◌<◌, ◌≤◌, length};
+ghost use Rattle.std.specs.Prelude.{◌≡◌, ◌-◌, ◌≤◌};
 ghost use Rattle.plain.specs.ValueLaws.{value_of};
 ghost use Rattle.plain.specs.Windows.{Sized, Goes, going, pushing, storing};
 
@@ -16,86 +16,40 @@ pub struct Place {
     pub used: u32,
 }
 
-// What a step comes to: on at an offset, a fault of a class, or the number of an end.
-#[derive(Clone, Copy)]
-pub struct Turn {
-    pub end: u32,
+impl Place {
+    // With k operands fewer.
+    pub fn lowered(self, k: usize) -> Place
+        requires { k ≤ self.operands }
+        ensures { result ≡ record { operands = self.operands - k; most = self.most; locals = self.locals; after = self.after; used = self.used } }
+    {
+        Place {
+            operands: self.operands - k,
+            most: self.most,
+            locals: self.locals,
+            after: self.after,
+            used: self.used,
+        }
+    }
+}
+
+// Where a step goes on: the next instruction's offset, how many operands there are, and the heap's cells in use.
+#[derive(Clone, Copy, Debug, PartialEq, Eq)]
+pub struct Onward {
     pub at: u32,
     pub operands: usize,
     pub used: u32,
 }
 
-impl Turn {
-    pub const ON: u32 = 0;
-
-    pub const HEAP_FULL: u32 = 4;
-
-    pub const DEPTH_FULL: u32 = 5;
-
-    pub const STUCK: u32 = 6;
-
-    pub const FAULT: u32 = 7;
+// Why one does not go on: a fault of a built-in class, no room in the heap or for another call, or nothing says how.
+#[derive(Clone, Copy, Debug, PartialEq, Eq)]
+pub enum Halt {
+    Fault(u32),
+    HeapFull,
+    DepthFull,
+    Stuck,
 }
 
-// With k operands fewer.
-pub fn lowered(c: Place, k: usize) -> Place
-    requires { k ≤ c.operands }
-    ensures { result ≡ record { operands = c.operands - k; most = c.most; locals = c.locals; after = c.after; used = c.used } }
-{
-    Place {
-        operands: c.operands - k,
-        most: c.most,
-        locals: c.locals,
-        after: c.after,
-        used: c.used,
-    }
-}
-
-pub fn stuck(c: Place) -> Turn
-    ensures { (result.end ≡ 6) × (result.operands ≡ 0) }
-{
-    Turn {
-        end: Turn::STUCK,
-        at: 0,
-        operands: 0,
-        used: c.used,
-    }
-}
-
-pub fn full(c: Place) -> Turn
-    ensures { (result.end ≡ 4) × (result.operands ≡ 0) }
-{
-    Turn {
-        end: Turn::HEAP_FULL,
-        at: 0,
-        operands: 0,
-        used: c.used,
-    }
-}
-
-// A fault of the built-in class k.
-pub fn fault(c: Place, k: u32) -> Turn
-    ensures { (result.end ≡ 7) × (result.at ≡ k) × (result.operands ≡ 0) }
-{
-    Turn {
-        end: Turn::FAULT,
-        at: k,
-        operands: 0,
-        used: c.used,
-    }
-}
-
-// Nothing that ends the step.
-pub fn fine(c: Place) -> Turn
-    ensures { result.end ≡ 0 }
-{
-    Turn {
-        end: Turn::ON,
-        at: 0,
-        operands: 0,
-        used: c.used,
-    }
-}
+pub type Turn = Result<Onward, Halt>;
 
 // On at an offset with the operands that are there; above max_stack it is stuck.
 pub fn go(w: &[u32], g: &[u8], c: Place, at: u32) -> Turn
@@ -103,14 +57,13 @@ pub fn go(w: &[u32], g: &[u8], c: Place, at: u32) -> Turn
     ensures { Goes c w.now g.now w.now g.now result (going at w.now g.now c.operands) }
 {
     if c.most < c.operands {
-        return stuck(c);
+        return Err(Halt::Stuck);
     }
-    Turn {
-        end: Turn::ON,
+    Ok(Onward {
         at,
         operands: c.operands,
         used: c.used,
-    }
+    })
 }
 
 // To the next instruction with v on the operands.
@@ -119,17 +72,16 @@ pub fn push(w: &mut [u32], g: &mut [u8], c: Place, v: Value) -> Turn
     ensures { Goes c w.old g.old w.new g.new result (pushing (value_of v.tag v.cell) w.old g.old c.operands) }
 {
     if c.most <= c.operands {
-        return stuck(c);
+        return Err(Halt::Stuck);
     }
     let i = 32 + c.operands;
     w[i] = v.cell;
     g[i] = v.tag;
-    Turn {
-        end: Turn::ON,
+    Ok(Onward {
         at: c.after,
         operands: c.operands + 1,
         used: c.used,
-    }
+    })
 }
 
 // To the next instruction with the local j set; one that is not there takes nothing.
@@ -138,14 +90,13 @@ pub fn put_local(w: &mut [u32], g: &mut [u8], c: Place, j: usize, v: Value) -> T
     ensures { Goes c w.old g.old w.new g.new result (storing (value_of v.tag v.cell) j w.old g.old c.operands) }
 {
     if c.most < c.operands {
-        return stuck(c);
+        return Err(Halt::Stuck);
     }
-    let r = Turn {
-        end: Turn::ON,
+    let r = Ok(Onward {
         at: c.after,
         operands: c.operands,
         used: c.used,
-    };
+    });
     if c.locals <= j {
         return r;
     }

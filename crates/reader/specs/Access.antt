@@ -1,16 +1,7 @@
 -- The program's pools and members by the blocks, and the limits that phase A keeps them to. Assumes nothing.
-use Prim.Native.Nat.{ℕ, zero, suc, ◌+◌, ◌-◌, ◌*◌, ◌/◌, ◌<◌, ◌≤◌}
 use Rattle.std.specs.Prelude.{◌≡◌, Bool, ◌⊎◌, eqb, get_or, take, drop}
-use Rattle.std.proofs.Math.Path.{refl, ap, subst}
-use Rattle.std.proofs.Common.{sym, ◌∙◌, inl, inr, length-take, length-append}
-use mathlib.Core.List.{List, [], ◌∷◌, ◌++◌, map}
-use Rattle.std.proofs.Math.Bool.{true, false, cond}
-use native.Mathlib.Omega.{arith}
+use Rattle.std.proofs.Common.{sym, ◌∙◌, inl, inr, length-take, length-append, ℕ, zero, suc, ◌+◌, ◌-◌, ◌*◌, ◌/◌, ◌<◌, ◌≤◌, refl, ap, List, [], ◌∷◌, ◌++◌, map, true, false, cond, arith, ltb, length, zero-add, eq-eqb, ne_eqb, ltb-true}
 use Rattle.std.proofs.Math.Decide.{ℕ_discrete}
-use Rattle.std.proofs.Math.Dec.{ltb}
-use Rattle.std.proofs.Math.ListN.{length}
-use Rattle.std.proofs.Math.Nat.{zero-add}
-use borrow.Author.Tests.{eq-eqb, ne_eqb, ltb-true}
 use Rattle.kit.specs.Bools.{not_so}
 use Rattle.kit.specs.Pick.{side}
 use Rattle.kit.specs.Words.{word, word-part, word-take}
@@ -19,21 +10,18 @@ use Rattle.texts.specs.Reading.{u2_at, u4_at, part}
 use Rattle.texts.specs.Names.{Text}
 use Rattle.classfiles.specs.Descriptors.{field_type_at}
 use Rattle.classfiles.specs.Shapes.{inside}
-use Rattle.classfiles.specs.Pool.{Constant, absent, utf8, integer, class_at, fieldref, methodref, name_and_type, constant_at, entry, text}
-use Rattle.classfiles.specs.Table.{pool_in, entry_in, constant_of, IsText, entry_none, entry_past, entry_in_lem}
+use Rattle.classfiles.specs.Pool.{Constant, absent, utf8, integer, class_at, fieldref, methodref, name_and_type, constant_at, entry}
+use Rattle.classfiles.specs.Table.{pool_in, entry_none, entry_past, entry_in_lem}
 use Rattle.classfiles.specs.Attributes.{member_of}
 use Rattle.classfiles.specs.Bundle.{ClassFile}
 use Rattle.reader.specs.BuiltIns.{BuiltIn, built_ins, first_class}
 use Rattle.reader.specs.Program.{Program, Signature, Field, Class, no_field, class, class_count, number_in, class_names, field_of, class_of, classes_from, built_ins_from, program_of, desc_or, own_types, layout_to, layout, same_signature, index_of, Spot, nowhere, spot, seek, lookup}
 use Rattle.classfiles.specs.Blocks.{block_size, pool_word, pool_of, row_in, class_in}
-use Rattle.reader.specs.Numbers.{part-block}
 use Rattle.reader.specs.Linked.{files_in}
 use Rattle.reader.specs.MemberRows.{block_at, row_start, row_count, row_at, row_sig}
 use Rattle.reader.specs.Lookup.{own_spot, class-at, class_past, class-count, built_in_class}
 use Rattle.reader.specs.MemberAt.{field_at, fields-count}
 use Rattle.reader.specs.TypeCodes.{desc_of, number_by}
-use Rattle.classfiles.specs.declared.pool.Span.{Span}
-use Rattle.classfiles.specs.declared.pool.Entry.{Entry}
 
 -- what phase A lets pass: of pool entries, fields and methods
 pub record Limited (n : ℕ) (t : List ℕ) : Type 0 where
@@ -45,25 +33,6 @@ pub record Limited (n : ℕ) (t : List ℕ) : Type 0 where
 pub pool-at : (s : List ℕ) (n : ℕ) (t : List ℕ) → n ≤ 16 → (c : ℕ) → c < n → (class (program_of (files_in s n t)) (first_class + c)).pool ≡ pool_of s (block_at t c)
 unfolding class_of class_in
 pool-at s n t m c h = ap (λ (C : Class). C.pool) (class-at s n t m c h)
-
-module _ (s b : List ℕ) (e i : ℕ) (h : take e b ≡ take (4 * word b pool_word) b) where
-  lent : take (e - 0) (drop 0 b) ≡ take (4 * word b pool_word) b
-  lent = let z : e - 0 ≡ e = omega arith in ap (λ (k : ℕ). take k b) z ∙ h
-
-  pub entry-lent : (r : Entry) → constant_of s r ≡ entry_in s (take (e - 0) (drop 0 b)) i → constant_of s r ≡ entry (pool_of s b) i
-  unfolding pool_of
-  entry-lent r k = k ∙ ap (λ (l : List ℕ). entry (pool_in s l) i) lent
-
-  pub text-lent : (r : Span) → IsText s r (text (pool_in s (take (e - 0) (drop 0 b))) i) → IsText s r (text (pool_of s b) i)
-  unfolding pool_of
-  text-lent r k = subst (λ (l : List ℕ). IsText s r (text (pool_in s l) i)) lent k
-
-module _ (s t : List ℕ) (c i : ℕ) where
-  pub entry-block : (r : Entry) → constant_of s r ≡ entry (pool_of s (take (6432 * c + 6432 - 6432 * c) (drop (6432 * c) t))) i → constant_of s r ≡ entry (pool_of s (block_at t c)) i
-  entry-block r k = k ∙ ap (λ (b : List ℕ). entry (pool_of s b) i) (part-block t c)
-
-  pub text-block : (r : Span) → IsText s r (text (pool_of s (take (6432 * c + 6432 - 6432 * c) (drop (6432 * c) t))) i) → IsText s r (text (pool_of s (block_at t c)) i)
-  text-block r k = subst (λ (b : List ℕ). IsText s r (text (pool_of s b) i)) (part-block t c) k
 
 pub tag_block : (t : List ℕ) (c i r : ℕ) → i < 1608 → r ≡ word t (1608 * c + i) → r ≡ word (block_at t c) i
 tag_block t c i r h e =
@@ -125,11 +94,11 @@ integer_at s b i v l z h = go (ℕ_discrete i 0) (side i (length (take (4 * word
         integer_here s (word b i) v k
 
 -- ---- a field's type
-pub field-type_as : (s : List ℕ) (n : ℕ) (t : List ℕ) (m : n ≤ 16) (c : ℕ) (h : c < n) (j r : ℕ) (p : Span) → j < row_count (block_at t c) false → IsText s p (row_sig s (block_at t c) false j).descriptor
-    → desc_of r ≡ desc_or (field_type_at (number_by s n t) (take (p.end - p.start) (drop p.start s)) 0) → desc_of r ≡ (get_or (class (program_of (files_in s n t)) (first_class + c)).fields j no_field).type
+pub field-type_as : (s : List ℕ) (n : ℕ) (t : List ℕ) (m : n ≤ 16) (c : ℕ) (h : c < n) (j r : ℕ) (p : Text) → j < row_count (block_at t c) false → p ≡ (row_sig s (block_at t c) false j).descriptor
+    → desc_of r ≡ desc_or (field_type_at (number_by s n t) p 0) → desc_of r ≡ (get_or (class (program_of (files_in s n t)) (first_class + c)).fields j no_field).type
 unfolding field_of row_at row_sig row_start row_in member_of
 field-type_as s n t m c h j r p l k e =
-    e ∙ ap (λ (x : Text). desc_or (field_type_at (number_by s n t) x 0)) k.is ∙ ap (λ (f : Field). f.type) (sym (field_at s n t m c h j l))
+    e ∙ ap (λ (x : Text). desc_or (field_type_at (number_by s n t) x 0)) k ∙ ap (λ (f : Field). f.type) (sym (field_at s n t m c h j l))
 
 -- ---- an object's fields
 layout-zero : (P : Program) (k c : ℕ) → c ≡ 0 → length (layout_to P (suc k) c) ≡ 0

@@ -1,23 +1,17 @@
 -- Supers as numbers and chains of parents, as the code follows them. Assumes nothing.
-use Rattle.std.specs.Prelude.{ℕ, zero, suc, ◌+◌, ◌-◌, ◌*◌, ◌<◌, ◌≤◌, ◌≡◌, refl, Bool, true, cond, ltb, eqb, length, get_or, take, drop}
-use Rattle.std.proofs.Math.Path.{sym, ap}
-use Rattle.std.proofs.Common.{◌∙◌}
-use mathlib.Core.List.{List, [], ◌∷◌, ◌++◌}
-use native.Mathlib.Omega.{arith}
-use borrow.Author.Tests.{eq-eqb, ne_eqb}
+use Rattle.std.specs.Prelude.{Option, Some, None, IfSome, unwrap_or, ℕ, zero, suc, ◌+◌, ◌-◌, ◌*◌, ◌<◌, ◌≤◌, ◌≡◌, refl, Bool, true, cond, ltb, eqb, length, get_or, take, drop}
+use Rattle.std.proofs.Common.{◌∙◌, sym, ap, List, [], ◌∷◌, ◌++◌, arith, eq-eqb, ne_eqb}
 use Rattle.kit.specs.Lists.{get_d_append_right}
 use Rattle.kit.specs.Words.{word}
 use Rattle.texts.specs.Reading.{u2_at}
 use Rattle.texts.specs.Names.{Text}
 use Rattle.classfiles.specs.Pool.{class_text}
-use Rattle.classfiles.specs.Table.{IsText}
 use Rattle.classfiles.specs.Bundle.{ClassFile, Super, zero', named}
 use Rattle.reader.specs.BuiltIns.{built_ins, first_class}
 use Rattle.reader.specs.Program.{Program, Class, no_class, class, number_in, class_names, parent_number, class_of, classes_from, built_ins_from, program_of, up_to}
 use Rattle.classfiles.specs.Blocks.{block_size, this_word, pool_of, super_in, class_in, classes_in}
 use Rattle.classfiles.specs.BlockWords.{length-listed}
-use Rattle.reader.specs.Numbers.{class_at, listed_at, part-block}
-use Rattle.classfiles.specs.declared.pool.Span.{Span}
+use Rattle.reader.specs.Numbers.{class_at, listed_at}
 
 -- the number that a super has, `none` where there is no super
 abbrev pub super_or : (Text → ℕ) → ℕ → Super → ℕ
@@ -50,27 +44,28 @@ unfoldable pub rooted_at : List ℕ → ℕ → ℕ → Bool
 rooted_at u n c = reach_in u (first_class + n) (first_class + c)
 
 -- ---- laws
-pub unique_as : (s t : List ℕ) (n c r : ℕ) (p : Span) → IsText s p (class_in s (take (6432 * c + 6432 - 6432 * c) (drop (6432 * c) t))).name
-    → r ≡ number_of s t n (take (p.end - p.start) (drop p.start s)) → eqb r (11 + c) ≡ unique_at s t n c
+pub unique_as : (s t : List ℕ) (n c r : ℕ) (p : Text) → p ≡ (class_at s t c).name
+    → r ≡ number_of s t n p → eqb r (11 + c) ≡ unique_at s t n c
 unfolding unique_at
 unique_as s t n c r p h e =
-    ap (λ (k : ℕ). eqb k (11 + c)) (e ∙ ap (number_of s t n) (h.is ∙ ap (λ (b : List ℕ). (class_in s b).name) (part-block t c)))
+    ap (λ (k : ℕ). eqb k (11 + c)) (e ∙ ap (number_of s t n) h)
 
 -- a super as its block has it
-module _ (s t : List ℕ) (n none c i : ℕ) (h : i ≡ u2_at s (word (take (6432 * c + 6432 - 6432 * c) (drop (6432 * c) t)) this_word + 2)) where
-  index_as : i ≡ u2_at s (word (take block_size (drop (block_size * c) t)) this_word + 2)
-  index_as = h ∙ ap (λ (b : List ℕ). u2_at s (word b this_word + 2)) (part-block t c)
-
+module _ (s t : List ℕ) (n none c i : ℕ) (h : i ≡ u2_at s (word (take block_size (drop (block_size * c) t)) this_word + 2)) where
   pub no_super : i ≡ 0 → none ≡ super_as s t n none c
   unfolding super_as class_in super_in
-  no_super z = rw (← index_as, z)
+  no_super z = rw (← h, z)
 
-  pub a_super : (i ≡ 0 → ⊥) → (r : ℕ) (p : Span) → IsText s p (class_text (pool_of s (take (6432 * c + 6432 - 6432 * c) (drop (6432 * c) t))) i)
-      → r ≡ number_of s t n (take (p.end - p.start) (drop p.start s)) → r ≡ super_as s t n none c
+  pub a_super : (i ≡ 0 → ⊥) → (r : ℕ) (p : Text) → p ≡ class_text (pool_of s (take block_size (drop (block_size * c) t))) i
+      → r ≡ number_of s t n p → r ≡ super_as s t n none c
   unfolding super_as class_in super_in
   a_super z r p x e =
-      rw (← index_as, ne_eqb i 0 z)
-      (e ∙ ap (number_of s t n) (x.is ∙ ap (λ (b : List ℕ). class_text (pool_of s b) i) (part-block t c)))
+      rw (← h, ne_eqb i 0 z)
+      (e ∙ ap (number_of s t n) x)
+
+pub or_object : (o : Option ℕ) → IfSome o (λ k. k ≤ 27) → unwrap_or o 0 ≤ 27
+or_object (Some k) h = h
+or_object None h = omega arith
 
 -- parents of the program's classes
 pub counted : (s t : List ℕ) (n : ℕ) → length (classes_in s t n) ≡ n

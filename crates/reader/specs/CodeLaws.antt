@@ -1,21 +1,13 @@
 -- How types are read into codes and kept: what the code's steps leave. Assumes nothing.
-use Prim.Native.Nat.{ℕ, zero, suc, ◌+◌, ◌-◌, ◌*◌, ◌/◌, ◌%◌, ◌<◌, ◌≤◌}
-use Rattle.std.specs.Prelude.{◌≡◌, not, ltb, set, drop}
-use Rattle.std.proofs.Math.Path.{refl, sym, ap}
-use Rattle.std.proofs.Common.{◌∙◌, take-take, drop-drop, drop-set-lt}
-use mathlib.Core.List.{List, [], ◌∷◌, ◌++◌, append-nil}
-use Rattle.std.proofs.Math.Bool.{Bool, true, false, cond}
-use native.Mathlib.Omega.{arith}
-use Rattle.std.proofs.Math.Dec.{eqb}
-use Rattle.std.proofs.Math.ListN.{length, get_or, take, length-append, length-set, length-take}
-use Rattle.std.proofs.Math.Seq.{take_all, get_or-set_same, get_or-set_other}
+use Rattle.std.specs.Prelude.{Result, Ok, Err, IfOk, IsErrAnd, ◌≡◌, not, ltb, set, drop}
+use Rattle.std.proofs.Common.{subst, ◌∙◌, take-take, drop-drop, drop-set-lt, ℕ, zero, suc, ◌+◌, ◌-◌, ◌*◌, ◌/◌, ◌%◌, ◌<◌, ◌≤◌, refl, sym, ap, List, [], ◌∷◌, ◌++◌, append-nil, Bool, true, false, cond, arith, eqb, length, get_or, take, length-append, length-set, length-take, take_all, get_or-set_same, get_or-set_other, eq-eqb, ne_eqb, lt-ltb, le-ltb}
 use Rattle.std.proofs.lemmas.List.{take-append-le, take-set-le}
-use borrow.Author.Tests.{eq-eqb, ne_eqb, lt-ltb, le-ltb, not-true, not-false}
+use Rattle.std.proofs.lemmas.Bool.{not-true, not-false}
 use Rattle.kit.specs.Bools.{not_so}
 use Rattle.classfiles.specs.Limits.{max_parameters, max_dimensions}
 use Rattle.texts.specs.Reading.{Res, ok, bad, and_then, pre}
 use Rattle.texts.specs.Names.{Text}
-use Rattle.texts.specs.Answers.{res_as, is_ok_lem, is_bad, no_ok, no_bad, as_bad}
+use Rattle.texts.specs.Answers.{res_as}
 use Rattle.classfiles.specs.Descriptors.{cls, arr, Desc, dint, dref, MethodType, method_type, named_at, base_at, type_at, params_at, results_at, whole, field_type_at, method_type_at, as_ref, class_type_at, known_ref, known_desc}
 use Rattle.classfiles.specs.Shapes.{seen}
 use Rattle.classfiles.specs.Blocks.{listed, classes_in}
@@ -26,13 +18,16 @@ use Rattle.reader.specs.Link.{all_known}
 use Rattle.reader.specs.BuiltIns.{first_class}
 use Rattle.reader.specs.Numbers.{listed_at}
 use Rattle.reader.specs.Chains.{counted}
-use Rattle.reader.specs.Linked.{parents_at, files_in, length-program}
+use Rattle.reader.specs.Linked.{parents_at, files_in, handed_on, length-program}
 use Rattle.reader.specs.TypeCodes.{base_of, nested, desc_of, ref_in, ref_of, result_of, known_all, types_of, number_by, codes_in, result_at, params_in, results_in, Aside, Kept, ParamsRead, ParamsKept, Settled, Described}
-use Rattle.texts.specs.declared.items.Got.{Got}
+use Rattle.texts.specs.Faults.{number as number_of}
+use Rattle.texts.specs.declared.faults.Refusal.TheVariants.{Malformed}
+use Rattle.texts.specs.declared.faults.Got.{Got}
+use Rattle.texts.specs.declared.faults.Fault.{Fault}
 use Rattle.reader.specs.declared.types.Listed.{Listed}
 
 -- ---- codes
-desc_at : (b d : ℕ) → d < 8 → desc_of (8 * b + d) ≡ nested d (base_of b)
+pub desc_at : (b d : ℕ) → d < 8 → desc_of (8 * b + d) ≡ nested d (base_of b)
 unfolding desc_of
 desc_at b d h =
     let x : (8 * b + d) % 8 ≡ d = omega arith in
@@ -78,16 +73,27 @@ module _ (m code : ℕ) where
 pub named-type : (R : Res Desc) (number : Text → ℕ) (x : Text) (q k z : ℕ) → k ≡ z → R ≡ named_at number x 0 q k → R ≡ named_at number x 0 q z
 named-type R number x q k z e h = h ∙ ap (named_at number x 0 q) e
 
--- ---- a base under brackets
-module _ (b : Got) (d : ℕ) where
-  pub under_bad : not b.ok ≡ true → res_as b (desc_of b.val) ≡ seen (nested d) (res_as b (base_of b.val))
-  unfolding seen
-  under_bad h = as_bad b (desc_of b.val) h ∙ ap (seen (nested d)) (sym (as_bad b (base_of b.val) h))
+-- ---- a fault that `?` hands on
+pub fault_as : {T A : Type 0} (f : T → A) (r : Result (Got T) Fault) (e : Fault) → IsErrAnd r (λ z. z ≡ e) → res_as f r ≡ bad (number_of e.0) e.1
+fault_as f (Ok v) e h = absurd h
+fault_as f (Err z) e h = ap (λ (x : Fault). bad (number_of x.0) x.1) h
 
-  pub under_ok : d < 8 → not b.ok ≡ false → ok (desc_of (8 * b.val + d)) b.at ≡ seen (nested d) (res_as b (base_of b.val))
-  unfolding seen
-  under_ok l h =
-      ap (λ (z : Desc). ok z b.at) (desc_at b.val d l) ∙ ap (seen (nested d)) (sym (no_ok (res_as b (base_of b.val)) b (base_of b.val) refl h))
+pub no_value : {T E : Type 0} (P : T → Type 0) (r : Result T E) (e : E) → IsErrAnd r (λ z. z ≡ e) → IfOk r P
+no_value P (Ok v) e h = absurd h
+no_value P (Err z) e h = tt
+
+pub below_none : (r : Result (Got ℕ) Fault) → IfOk r (λ d. d.val < 256) → IfOk r (λ d. d.val ≤ 256)
+below_none (Ok d) h = omega arith
+below_none (Err e) h = tt
+
+-- ---- a base under brackets
+pub seen-under : (d c at at' : ℕ) (b : Desc) → desc_of c ≡ nested d b → at' ≡ at → ok (desc_of c) at' ≡ seen (nested d) (ok b at)
+unfolding seen
+seen-under d c at at' b e f = cc
+
+pub seen-fault : (d n p : ℕ) → bad n p ≡ seen (nested d) (bad n p)
+unfolding seen
+seen-fault d n p = refl
 
 seen-zero : (y : Res Desc) → seen (nested 0) y ≡ y
 unfolding seen nested
@@ -140,49 +146,47 @@ module _ (number : Text → ℕ) (x : Text) where
           ∙ ap (seen (nested (7 - left))) (sym (type_array left q h (sym g ∙ not-false b f))) ∙ i
 
   -- ---- whole descriptors
-  module _ (d : Got) (k : res_as d (desc_of d.val) ≡ type_at number x 0 max_dimensions 0) where
-    pub field_bad : not d.ok ≡ true → desc_of 248 ≡ desc_or (field_type_at number x 0)
+  module _ (n p : ℕ) (k : bad n p ≡ type_at number x 0 max_dimensions 0) where
+    pub field_bad : desc_of 248 ≡ desc_or (field_type_at number x 0)
     unfolding field_type_at and_then desc_of nested base_of
-    field_bad h = rw (no_bad (type_at number x 0 max_dimensions 0) d (desc_of d.val) k h)
+    field_bad = rw (← k)
 
-    pub field_ok : not d.ok ≡ false → d.at ≡ length x → desc_of d.val ≡ desc_or (field_type_at number x 0)
+    pub array_bad : (b : Bool) → b ≡ eqb (get_or x 0 0) 91 → b ≡ true → bad n p ≡ class_type_at number x 0
+    unfolding class_type_at field_type_at and_then
+    array_bad b g f = sym (rw (sym g ∙ f, ← k))
+
+  module _ (v at : ℕ) (k : ok (desc_of v) at ≡ type_at number x 0 max_dimensions 0) where
+    pub field_ok : at ≡ length x → desc_of v ≡ desc_or (field_type_at number x 0)
     unfolding field_type_at and_then whole
-    field_ok h e = rw (no_ok (type_at number x 0 max_dimensions 0) d (desc_of d.val) k h, eq-eqb d.at (length x) e)
+    field_ok e = rw (← k, eq-eqb at (length x) e)
 
-    pub field_short : not d.ok ≡ false → (d.at ≡ length x → ⊥) → desc_of 248 ≡ desc_or (field_type_at number x 0)
+    pub field_short : (at ≡ length x → ⊥) → desc_of 248 ≡ desc_or (field_type_at number x 0)
     unfolding field_type_at and_then whole desc_of nested base_of
-    field_short h e = rw (no_ok (type_at number x 0 max_dimensions 0) d (desc_of d.val) k h, ne_eqb d.at (length x) e)
+    field_short e = rw (← k, ne_eqb at (length x) e)
 
     module _ (b : Bool) (g : b ≡ eqb (get_or x 0 0) 91) (f : b ≡ true) where
-      is-array : (y : Res Desc) → and_then y (λ z e. ok (dref (arr z)) e) ≡ ok (desc_of d.val) d.at → dref (ref_of d.val) ≡ desc_of d.val
+      is-array : (y : Res Desc) → and_then y (λ z e. ok (dref (arr z)) e) ≡ ok (desc_of v) at → dref (ref_of v) ≡ desc_of v
       unfolding and_then ref_of ref_in
-      is-array (ok z e) h = let w : dref (arr z) ≡ desc_of d.val = ap desc_or h in rw (← w)
+      is-array (ok z e) h = let w : dref (arr z) ≡ desc_of v = ap desc_or h in rw (← w)
       is-array (bad n p) h = absurd (no_res h)
         where
           kind : Res Desc → Bool
           kind (ok z e) = true
           kind (bad n p) = false
 
-          no_res : bad n p ≡ ok (desc_of d.val) d.at → ⊥
+          no_res : bad n p ≡ ok (desc_of v) at → ⊥
           no_res h = not_so (ap kind h)
 
-      array_desc : not d.ok ≡ false → desc_of d.val ≡ dref (ref_of d.val)
-      array_desc h =
-          sym (is-array (type_at number x 0 6 1) (sym (type_array 7 0 (omega arith) (sym g ∙ f)) ∙ no_ok (type_at number x 0 7 0) d (desc_of d.val) k h))
+      array_desc : desc_of v ≡ dref (ref_of v)
+      array_desc = sym (is-array (type_at number x 0 6 1) (sym (type_array 7 0 (omega arith) (sym g ∙ f)) ∙ sym k))
 
-      pub array_bad : not d.ok ≡ true → res_as d (ref_of d.val) ≡ class_type_at number x 0
-      unfolding class_type_at field_type_at and_then
-      array_bad h = as_bad d (ref_of d.val) h ∙ sym (rw (sym g ∙ f, no_bad (type_at number x 0 max_dimensions 0) d (desc_of d.val) k h))
-
-      pub array_ok : not d.ok ≡ false → d.at ≡ length x → res_as d (ref_of d.val) ≡ class_type_at number x 0
+      pub array_ok : at ≡ length x → ok (ref_of v) at ≡ class_type_at number x 0
       unfolding class_type_at field_type_at and_then whole as_ref
-      array_ok h e =
-          no_ok (res_as d (ref_of d.val)) d (ref_of d.val) refl h
-          ∙ sym (rw (sym g ∙ f, no_ok (type_at number x 0 max_dimensions 0) d (desc_of d.val) k h, eq-eqb d.at (length x) e, array_desc h))
+      array_ok e = sym (rw (sym g ∙ f, ← k, eq-eqb at (length x) e, array_desc))
 
-      pub array_short : not d.ok ≡ false → (d.at ≡ length x → ⊥) → bad 7 0 ≡ class_type_at number x 0
+      pub array_short : (at ≡ length x → ⊥) → bad 7 0 ≡ class_type_at number x 0
       unfolding class_type_at field_type_at and_then whole
-      array_short h e = sym (rw (sym g ∙ f, no_ok (type_at number x 0 max_dimensions 0) d (desc_of d.val) k h, ne_eqb d.at (length x) e))
+      array_short e = sym (rw (sym g ∙ f, ← k, ne_eqb at (length x) e))
 
 -- ---- bytes aside
 module _ (w n : ℕ) (t : List ℕ) where
@@ -308,30 +312,28 @@ module _ (m : ℕ) (number : Text → ℕ) (x : Text) (w : ℕ) (t : List ℕ) w
   }
 
   module _ (at left count : ℕ) (known : Bool) (u : List ℕ) (i : ParamsRead m number x w at left count known t u) where
-    kept : (r : Listed) → r.known ≡ known → r.count ≡ count → params_at number x 0 (length x) 1 ≡ cond r.ok (ok i.ds r.at) (bad r.val r.at)
-        → ParamsKept m number x w r t u
-    kept r k n e = record {
-      ds = i.ds;
-      is = e;
-      codes = ap (codes_in u w) n ∙ i.codes;
-      known = k ∙ i.known;
-      most = omega (arith, i.most);
-      aside = i.aside;
-    }
+    kept-bad : (e : Fault) → params_at number x 0 (length x) 1 ≡ bad (number_of e.0) e.1 → ParamsKept m number x w (Err e) t u
+    kept-bad e h = record { ds = i.ds; is = h; codes = tt; known = tt; most = tt; aside = i.aside }
 
-    pub params_none : left ≤ 0 → ParamsKept m number x w (record { ok = false; known = known; count = count; val = 7; at = 0 }) t u
+    pub params_none : left ≤ 0 → ParamsKept m number x w (Err (Malformed, 0)) t u
     unfolding params_at pre
-    params_none h = kept _ refl refl (sym i.is ∙ ap (pre i.ds) (none left h))
+    params_none h = kept-bad _ (sym i.is ∙ ap (pre i.ds) (none left h))
       where
         none : (n : ℕ) → n ≤ 0 → params_at number x 0 n at ≡ bad 7 0
         none zero h = refl
         none (suc n) h = absurd (omega arith)
 
     module _ (b : Bool) (g : b ≡ eqb (get_or x at 0) 41) (h : 0 < left) where
-      pub params_end : b ≡ true → ParamsKept m number x w (record { ok = true; known = known; count = count; val = 0; at = at + 1 }) t u
+      pub params_end : b ≡ true → ParamsKept m number x w (Ok (record { known = known; count = count; at = at + 1 })) t u
       unfolding pre params_at
-      params_end f =
-          kept _ refl refl (sym i.is ∙ ap (pre i.ds) (last left h (sym g ∙ f)) ∙ ap (λ (l : List Desc). ok l (at + 1)) (append-nil i.ds))
+      params_end f = record {
+        ds = i.ds;
+        is = sym i.is ∙ ap (pre i.ds) (last left h (sym g ∙ f)) ∙ ap (λ (l : List Desc). ok l (at + 1)) (append-nil i.ds);
+        codes = i.codes;
+        known = i.known;
+        most = i.most;
+        aside = i.aside;
+      }
         where
           last : (n : ℕ) → 0 < n → eqb (get_or x at 0) 41 ≡ true → params_at number x 0 n at ≡ ok [] (at + 1)
           last zero l e = absurd (omega arith)
@@ -347,18 +349,18 @@ module _ (m : ℕ) (number : Text → ℕ) (x : Text) (w : ℕ) (t : List ℕ) w
               let z : n ≡ suc n - 1 = omega arith in
               rw e (ap (λ (k : ℕ). and_then (type_at number x 0 max_dimensions at) λ d e. pre (d ∷ []) (params_at number x 0 k e)) z)
 
-      module _ (f : b ≡ false) (d : Got) (k : res_as d (desc_of d.val) ≡ type_at number x 0 max_dimensions at) where
-        pub params_bad : not d.ok ≡ true → ParamsKept m number x w (record { ok = false; known = known; count = count; val = d.val; at = d.at }) t u
+      module _ (f : b ≡ false) where
+        pub params_bad : (e : Fault) → bad (number_of e.0) e.1 ≡ type_at number x 0 max_dimensions at → (r : Result Listed Fault) → IsErrAnd r (λ z. z ≡ e) → ParamsKept m number x w r t u
         unfolding and_then pre
-        params_bad l =
-            let z : params_at number x 0 left at ≡ bad d.val d.at = another f ∙ rw (no_bad (type_at number x 0 max_dimensions at) d (desc_of d.val) k l) in
-            kept _ refl refl (sym i.is ∙ ap (pre i.ds) z)
+        params_bad e k r l =
+            let z : params_at number x 0 left at ≡ bad (number_of e.0) e.1 = another f ∙ rw (← k) in
+            subst (λ (y : Result Listed Fault). ParamsKept m number x w y t u) (sym (handed_on r e l)) (kept-bad e (sym i.is ∙ ap (pre i.ds) z))
 
-        pub params_more : not d.ok ≡ false → (r : ℕ) (v : List ℕ) (a c : Bool) → Kept w count d.val r u v → a ≡ known_desc m (desc_of d.val) → c ≡ cond known a false
+        pub params_more : (d : Got ℕ) → ok (desc_of d.val) d.at ≡ type_at number x 0 max_dimensions at → (r : ℕ) (v : List ℕ) (a c : Bool) → Kept w count d.val r u v → a ≡ known_desc m (desc_of d.val) → c ≡ cond known a false
             → ParamsRead m number x w d.at (left - 1) r c t v
         unfolding and_then
-        params_more l r v a c q y z =
-            let o : params_at number x 0 left at ≡ pre (desc_of d.val ∷ []) (params_at number x 0 (left - 1) d.at) = another f ∙ rw (no_ok (type_at number x 0 max_dimensions at) d (desc_of d.val) k l) in
+        params_more d k r v a c q y z =
+            let o : params_at number x 0 left at ≡ pre (desc_of d.val ∷ []) (params_at number x 0 (left - 1) d.at) = another f ∙ rw (← k) in
             record {
               ds = i.ds ++ (desc_of d.val ∷ []);
               is =
@@ -379,16 +381,12 @@ module _ (number : Text → ℕ) (x : Text) (q : ℕ) (b : Bool) (g : b ≡ eqb 
   unfolding results_at result_of
   result_none f = sym (rw (sym g ∙ f))
 
-  pub result_some : b ≡ false → (d : Got) → res_as d (desc_of d.val) ≡ type_at number x 0 max_dimensions q → d.val < 256 → res_as d (result_of d.val) ≡ results_at number x 0 q
+  pub result_some : b ≡ false → (r : Result (Got ℕ) Fault) → res_as desc_of r ≡ type_at number x 0 max_dimensions q → IfOk r (λ d. d.val < 256) → res_as result_of r ≡ results_at number x 0 q
   unfolding results_at and_then result_of
-  result_some f d k l = go d.ok refl
-    where
-      one : result_of d.val ≡ desc_of d.val ∷ []
-      one = rw (ne_eqb d.val 256 (λ z. omega arith))
-
-      go : (c : Bool) → d.ok ≡ c → res_as d (result_of d.val) ≡ cond (eqb (get_or x q 0) 86) (ok [] (q + 1)) (and_then (type_at number x 0 max_dimensions q) λ d e. ok (d ∷ []) e)
-      go true e = is_ok_lem (res_as d (result_of d.val)) d (result_of d.val) refl e ∙ ap (λ (r : List Desc). ok r d.at) one ∙ sym (rw (sym g ∙ f, is_ok_lem (type_at number x 0 max_dimensions q) d (desc_of d.val) k e))
-      go false e = is_bad (res_as d (result_of d.val)) d (result_of d.val) refl e ∙ sym (rw (sym g ∙ f, is_bad (type_at number x 0 max_dimensions q) d (desc_of d.val) k e))
+  result_some f (Ok d) k l =
+      let one : result_of d.val ≡ desc_of d.val ∷ [] = rw (ne_eqb d.val 256 (λ z. omega arith)) in
+      ap (λ (r : List Desc). ok r d.at) one ∙ sym (rw (sym g ∙ f, ← k))
+  result_some f (Err e) k l = sym (rw (sym g ∙ f, ← k))
 
 -- ---- the entry's first and last byte
 module _ (t : List ℕ) (w count v : ℕ) (l : w + 18 ≤ length t) (h : count ≤ 16) where
@@ -423,29 +421,27 @@ module _ (number : Text → ℕ) (x : Text) (b : Bool) (g : b ≡ eqb (get_or x 
   unfolding method_type_at
   method_none f = rw (sym g ∙ not-true b f)
 
-  module _ (f : not b ≡ false) (m w : ℕ) (p : Listed) (t u : List ℕ) (k : ParamsKept m number x w p t u) where
+  module _ (f : not b ≡ false) (m w : ℕ) (t u : List ℕ) where
     open_is : eqb (get_or x 0 0) 40 ≡ true
     open_is = sym g ∙ not-false b f
 
-    pub method-params : not p.ok ≡ true → method_type_at number x 0 ≡ bad p.val p.at
+    pub method-params : (e : Fault) → ParamsKept m number x w (Err e) t u → method_type_at number x 0 ≡ bad (number_of e.0) e.1
     unfolding method_type_at and_then
-    method-params h = rw (open_is, k.is, not-true p.ok h)
+    method-params e k = rw (open_is, k.is)
 
-    module _ (h : not p.ok ≡ false) (r : Got) (e : res_as r (result_of r.val) ≡ results_at number x 0 p.at) where
-      pub method-result : not r.ok ≡ true → method_type_at number x 0 ≡ bad r.val r.at
+    module _ (p : Listed) (k : ParamsKept m number x w (Ok p) t u) where
+      pub method-result : (e : Fault) → bad (number_of e.0) e.1 ≡ results_at number x 0 p.at → method_type_at number x 0 ≡ bad (number_of e.0) e.1
       unfolding method_type_at and_then
-      method-result l = rw (open_is, k.is, not-false p.ok h, no_bad (results_at number x 0 p.at) r (result_of r.val) e l)
+      method-result e h = rw (open_is, k.is, ← h)
 
-      module _ (l : not r.ok ≡ false) (n : ℕ) (c : length x ≡ n) where
+      module _ (r : Got ℕ) (e : ok (result_of r.val) r.at ≡ results_at number x 0 p.at) (n : ℕ) (c : length x ≡ n) where
         pub method_long : (r.at ≡ n → ⊥) → method_type_at number x 0 ≡ bad 7 0
         unfolding method_type_at and_then whole
-        method_long z =
-            rw (open_is, k.is, not-false p.ok h, no_ok (results_at number x 0 p.at) r (result_of r.val) e l, ne_eqb r.at (length x) (λ y. z (y ∙ c)))
+        method_long z = rw (open_is, k.is, ← e, ne_eqb r.at (length x) (λ y. z (y ∙ c)))
 
         pub method_ok : r.at ≡ n → method_type_at number x 0 ≡ ok (method_type k.ds (result_of r.val)) r.at
         unfolding method_type_at and_then whole
-        method_ok z =
-            rw (open_is, k.is, not-false p.ok h, no_ok (results_at number x 0 p.at) r (result_of r.val) e l, eq-eqb r.at (length x) (z ∙ sym c))
+        method_ok z = rw (open_is, k.is, ← e, eq-eqb r.at (length x) (z ∙ sym c))
 
 -- the codes are written inside the entry
 module _ (k : ℕ) (t u : List ℕ) (h : Aside (types_of k + 1) 16 t u) where

@@ -1,7 +1,6 @@
 -- No phase before C refuses with a number above 9. Assumes nothing.
-use Prim.Native.Nat.{ℕ, zero, suc, ◌≤◌}
 use Rattle.std.specs.Prelude.{List, [], ◌∷◌, ◌++◌, Bool, true, false, cond, length}
-use Rattle.std.proofs.Common.{arith}
+use Rattle.std.proofs.Common.{arith, ℕ, zero, suc, ◌≤◌}
 use Rattle.kit.specs.Claims.{Claim, claim, pass, fail, verdict, then}
 use Rattle.reader.specs.Verdicts.{Refusal, Verdict, each}
 use Rattle.texts.specs.Reading.{Res, ok, bad, and_then, pre, many, sum_at, num2_at, num4_at, skip_at, short_at, u2, u4}

@@ -1,13 +1,7 @@
 -- What phase A lets pass: how many pool entries, fields and methods a class has, and how many parameters a method. Assumes nothing.
-use Prim.Native.Nat.{ℕ, zero, suc, ◌+◌, ◌-◌, ◌*◌, ◌<◌, ◌≤◌}
 use Rattle.std.specs.Prelude.{◌≡◌, Bool, cond, ltb, eqb, get_or, take}
-use Rattle.std.proofs.Math.Path.{refl}
-use Rattle.std.proofs.Common.{sym, ap, subst, ◌∙◌}
-use mathlib.Core.List.{List, [], ◌∷◌}
-use Rattle.std.proofs.Math.Bool.{true, false}
-use native.Mathlib.Omega.{arith}
-use Rattle.std.proofs.Math.ListN.{length, length-take}
-use borrow.Author.Tests.{ltb-false, eqb-false}
+use Rattle.std.proofs.Common.{sym, ap, subst, ◌∙◌, ℕ, zero, suc, ◌+◌, ◌-◌, ◌*◌, ◌<◌, ◌≤◌, refl, List, [], ◌∷◌, true, false, arith, length, length-take, ltb-false}
+use Rattle.std.proofs.lemmas.Bool.{eqb-false}
 use Rattle.kit.specs.Lists.{eq_list, length_part}
 use Rattle.kit.specs.Scan.{first_not}
 use Rattle.kit.specs.Words.{word}
@@ -16,7 +10,8 @@ use Rattle.texts.specs.Reading.{Res, ok, bad, and_then, pre, many, sum_at, u2_at
 use Rattle.texts.specs.Ends.{Holds, holds_of, then-holds, any-holds, cond-holds, skip_holds}
 use Rattle.texts.specs.Names.{Text, Code, class_name, is_init}
 use Rattle.classfiles.specs.Descriptors.{MethodType, semicolon, method_type_at}
-use Rattle.classfiles.specs.Shapes.{Arity, arity, seen, named_shape, base_shape, type_shape, params_shape, results_shape, method_shape, method-shape}
+use Rattle.classfiles.specs.declared.descriptors.Arity.{Arity}
+use Rattle.classfiles.specs.Shapes.{arity, seen, named_shape, base_shape, type_shape, params_shape, results_shape, method_shape, method-shape}
 use Rattle.classfiles.specs.Pool.{Constant, text, constants, entry_fault, checked_at, judged_at, entry_at, tags_at, pool_at, utf8_index_at}
 use Rattle.classfiles.specs.Table.{pool_in, length-pool, length-constants}
 use Rattle.classfiles.specs.Members.{Found, none, once, twice, another, Handler, Body, Member, inners_at, code_at, handler_at, table_at, body_at, attribute_at, access_at, name_at, slots, method_type_ok, descriptor_at, attributes_at, member_at}

@@ -1,15 +1,14 @@
 -- Phase B's rulings on classes, as the code finds them: the first class whose test fails. Assumes nothing.
-use Prim.Native.Nat.{ℕ, suc, ◌+◌, ◌-◌, ◌*◌, ◌^◌, ◌<◌, ◌≤◌}
-use Rattle.std.specs.Prelude.{◌≡◌, Bool, true, false, cond, ◌⊎◌, ltb, eqb, length, get_or, take, drop}
-use Rattle.std.proofs.Math.Path.{refl, sym, ap}
-use Rattle.std.proofs.Common.{subst, ◌∙◌, inl, inr, zero-add, length-append, length-take, lt-ltb, le-ltb, take-take}
-use mathlib.Core.List.{List, [], ◌∷◌, ◌++◌, map}
-use native.Mathlib.Omega.{arith}
+use Rattle.std.specs.Prelude.{Result, Ok, Err, OnOk, IsErrAnd, ◌≡◌, Bool, true, false, cond, ◌⊎◌, ltb, length, get_or, take, drop}
+use Rattle.std.proofs.Common.{subst, ◌∙◌, inl, inr, zero-add, length-append, length-take, lt-ltb, le-ltb, take-take, ℕ, suc, ◌+◌, ◌-◌, ◌*◌, ◌^◌, ◌<◌, ◌≤◌, refl, sym, ap, List, [], ◌∷◌, ◌++◌, map, arith}
 use Rattle.std.proofs.Math.ListN.{get_or-eq_default}
 use Rattle.kit.specs.Lists.{drop-take}
 use Rattle.kit.specs.Claims.{Claim, claim, pass, fail, verdict, then, pass_then, fail_then}
 use Rattle.kit.specs.Pick.{side}
 use Rattle.kit.specs.Scan.{first_not}
+use Rattle.texts.specs.Faults.{number}
+use Rattle.texts.specs.declared.faults.Refusal as faults
+use Rattle.texts.specs.declared.faults.Refusal.TheVariants.{Twice, Missing}
 use Rattle.kit.specs.Words.{word, put_word, word-part, word_out, word_same, word_other, word-take}
 use Rattle.reader.specs.Verdicts.{fault, Refusal, in_class, Verdict, each}
 use Rattle.classfiles.specs.Bundle.{ClassFile, Super, zero', named}
@@ -20,7 +19,7 @@ use Rattle.classfiles.specs.Blocks.{block_size, start_word, class_in, classes_in
 use Rattle.classfiles.specs.BlockWords.{take_put, listed_same}
 use Rattle.reader.specs.Numbers.{class_at}
 use Rattle.reader.specs.Chains.{super_or, super_as, unique_at, known_at, rooted_at, reach_is, counted, there}
-use Rattle.reader.specs.declared.link.Linked.{Linked}
+use Rattle.reader.specs.declared.link.Refused.{Refused}
 
 -- behind 16 blocks: a word a class, the built-in ones first
 abbrev pub parents_at : ℕ
@@ -40,18 +39,31 @@ pub record Parents (s : List ℕ) (n : ℕ) (t : List ℕ) : Type 0 where
   pub at : (c : ℕ) → c < first_class + n → word t (parents_word + c) ≡ (class (program_of (files_in s n t)) c).parent
 
 -- what the code's answer says
-abbrev pub ruling_of : Linked → Verdict
-ruling_of r = cond (eqb r.number 0) pass (fail (in_class r.class (fault r.number r.place)))
+abbrev pub refused_as : Refused → Refusal
+refused_as e = in_class e.class (fault (number e.refusal) e.place)
+
+abbrev pub ruling_of : Result (Unit {0}) Refused → Verdict
+ruling_of (Ok u) = pass
+ruling_of (Err e) = fail (refused_as e)
+
+pub on_ok : {A E P Q : Type 0} (r : Result A E) → (P → Q) → OnOk r P → OnOk r Q
+on_ok (Ok u) f h = f h
+on_ok (Err e) f h = tt
+
+-- what `?` hands on
+pub handed_on : {A E : Type 0} (r : Result A E) (e : E) → IsErrAnd r (λ z. z ≡ e) → r ≡ Err e
+handed_on (Ok u) e h = absurd h
+handed_on (Err z) e h = ap Err h
 
 -- names, supers, chains
 unfoldable pub class_ruling : List ClassFile → Verdict
 class_ruling fs =
     then (verdict (each (unique_class fs) 0 fs)) (then (verdict (each (super_claims fs) 0 fs)) (verdict (each (chain_claims (program_of fs)) 0 fs)))
 
-pub record ClassesLinked (s : List ℕ) (n : ℕ) (r : Linked) (t u : List ℕ) : Type 0 where
+pub record ClassesLinked (s : List ℕ) (n : ℕ) (r : Result (Unit {0}) Refused) (t u : List ℕ) : Type 0 where
   pub is : ruling_of r ≡ class_ruling (files_in s n t)
   pub blocks : take parents_at u ≡ take parents_at t
-  pub parents : r.number ≡ 0 → Parents s n u
+  pub parents : OnOk r (Parents s n u)
 
 -- ---- the first of a list of tests that fails
 module _ {A K : Type 0} (d : A) (c : ℕ → A → List (Claim K)) (lab : ℕ → K) (test : ℕ → Bool) where
@@ -151,11 +163,11 @@ module _ (s : List ℕ) (n : ℕ) (t : List ℕ) (m : n ≤ 16) where
       ∙ sym (word-part (1608 * i) block_size T start_word (omega arith))
       ∙ ap (λ (k : ℕ). word (take block_size (drop k T)) start_word) z
 
-  refused_as_lem : (k i : ℕ) (u : List ℕ) (r : Linked) → i < 16 → take parents_at u ≡ T → eqb k 0 ≡ false → (r.number ≡ k) × (r.class ≡ i) × (r.place ≡ word u (1608 * i + start_word))
-      → ruling_of r ≡ fail (placed k i)
-  refused_as_lem k i u r h e z f =
+  refused_at : (k : faults.Refusal) (i : ℕ) (u : List ℕ) (r : Refused) → i < 16 → take parents_at u ≡ T → (r.refusal ≡ k) × (r.class ≡ i) × (r.place ≡ word u (1608 * i + start_word))
+      → fail (refused_as r) ≡ fail (placed (number k) i)
+  refused_at k i u r h e f =
       let p : r.place ≡ (class_at s T i).start = f.2 ∙ sym (word-take parents_at u (1608 * i + start_word) (omega arith)) ∙ ap (λ (l : List ℕ). word l (1608 * i + start_word)) e ∙ word-take parents_at t (1608 * i + start_word) (omega arith) ∙ start_as i h in
-      rw (f.0, f.1, p, z)
+      rw (f.0, f.1, p)
 
 -- ---- the parents' words
 -- one more of them
@@ -192,36 +204,33 @@ module _ (s : List ℕ) (n : ℕ) (t : List ℕ) (h : Parents s n t) (l : parent
 pub any_class : ClassFile
 any_class = record { start = 0; pool = []; name = []; super = zero'; fields = []; methods = [] }
 
-nonzero : (a b : ℕ) → a ≡ b → 0 < b → a ≡ 0 → ⊥
-nonzero a b e h z = omega arith
-
 module _ (s : List ℕ) (n : ℕ) (t : List ℕ) (m : n ≤ 16) (i : ℕ) (ei : i ≡ first_not (unique_at s (take parents_at t) n) n 0) where
   abbrev T₀ : List ℕ
   T₀ = take parents_at t
 
-  pub linked_double : i < n → (r : Linked) → (r.number ≡ 8) × (r.class ≡ i) × (r.place ≡ word t (1608 * i + start_word)) → ClassesLinked s n r t t
+  pub linked_double : i < n → (r : Refused) → (r.refusal ≡ Twice) × (r.class ≡ i) × (r.place ≡ word t (1608 * i + start_word)) → ClassesLinked s n (Err r) t t
   unfolding class_ruling
   linked_double h r f = record {
     is =
-        refused_as_lem s n t m 8 i t r (omega arith) refl refl f
+        refused_at s n t m Twice i t r (omega arith) refl f
         ∙ sym (fail_then _ _ _ (ruled_fail any_class (unique_class (files_in s n t)) (placed s n t m 8) (unique_at s T₀ n) (files_in s n t) n (counted s T₀ n) (unique_claim s n t m any_class) i ei h));
     blocks = refl;
-    parents = λ z. absurd (nonzero r.number 8 f.0 (omega arith) z);
+    parents = tt;
   }
 
   module _ (hi : n ≤ i) (j : ℕ) (ej : j ≡ first_not (known_at s T₀ n) n 0) where
     names_pass : verdict (each (unique_class (files_in s n t)) 0 (files_in s n t)) ≡ pass
     names_pass = ruled_pass any_class (unique_class (files_in s n t)) (placed s n t m 8) (unique_at s T₀ n) (files_in s n t) n (counted s T₀ n) (unique_claim s n t m any_class) i ei hi
 
-    pub linked_unknown : j < n → (r : Linked) → (r.number ≡ 9) × (r.class ≡ j) × (r.place ≡ word t (1608 * j + start_word)) → ClassesLinked s n r t t
+    pub linked_unknown : j < n → (r : Refused) → (r.refusal ≡ Missing) × (r.class ≡ j) × (r.place ≡ word t (1608 * j + start_word)) → ClassesLinked s n (Err r) t t
     unfolding class_ruling
     linked_unknown h r f = record {
       is =
-          refused_as_lem s n t m 9 j t r (omega arith) refl refl f
+          refused_at s n t m Missing j t r (omega arith) refl f
           ∙ sym (pass_then _ _ names_pass
           ∙ fail_then _ _ _ (ruled_fail any_class (super_claims (files_in s n t)) (placed s n t m 9) (known_at s T₀ n) (files_in s n t) n (counted s T₀ n) (super_claim s n t m any_class) j ej h));
       blocks = refl;
-      parents = λ z. absurd (nonzero r.number 9 f.0 (omega arith) z);
+      parents = tt;
     }
 
     module _ (hj : n ≤ j) (u : List ℕ) (eu : take parents_at u ≡ T₀) (hu : Parents s n u) (l : parents_end ≤ length u) (k : ℕ) (ek : k ≡ first_not (rooted_at (U s n u hu l m) n) n 0) where
@@ -231,25 +240,25 @@ module _ (s : List ℕ) (n : ℕ) (t : List ℕ) (m : n ≤ 16) (i : ℕ) (ei : 
       words_are : (c : ℕ) → word (U s n u hu l m) c ≡ (class (program_of (files_in s n t)) c).parent
       words_are c = table-word s n u hu l m c ∙ ap (λ (z : List ℕ). (class (program_of (classes_in s z n)) c).parent) eu
 
-      pub linked-cut : k < n → (r : Linked) → (r.number ≡ 9) × (r.class ≡ k) × (r.place ≡ word u (1608 * k + start_word)) → ClassesLinked s n r t u
+      pub linked-cut : k < n → (r : Refused) → (r.refusal ≡ Missing) × (r.class ≡ k) × (r.place ≡ word u (1608 * k + start_word)) → ClassesLinked s n (Err r) t u
       unfolding class_ruling
       linked-cut h r f = record {
         is =
-            refused_as_lem s n t m 9 k u r (omega arith) eu refl f
+            refused_at s n t m Missing k u r (omega arith) eu f
             ∙ sym (pass_then _ _ names_pass ∙ pass_then _ _ supers_pass
             ∙ ruled_fail any_class (chain_claims (program_of (files_in s n t))) (placed s n t m 9) (rooted_at (U s n u hu l m) n) (files_in s n t) n (counted s T₀ n) (chain_claim s n t m any_class (U s n u hu l m) words_are) k ek h);
         blocks = eu;
-        parents = λ z. hu;
+        parents = tt;
       }
 
-      pub linked_pass : n ≤ k → (r : Linked) → r.number ≡ 0 → ClassesLinked s n r t u
+      pub linked_pass : n ≤ k → (v : Unit {0}) → ClassesLinked s n (Ok v) t u
       unfolding class_ruling
-      linked_pass h r f = record {
+      linked_pass h v = record {
         is =
-            rw f (sym (pass_then _ _ names_pass ∙ pass_then _ _ supers_pass
+            (sym (pass_then _ _ names_pass ∙ pass_then _ _ supers_pass
             ∙ ruled_pass any_class (chain_claims (program_of (files_in s n t))) (placed s n t m 9) (rooted_at (U s n u hu l m) n) (files_in s n t) n (counted s T₀ n) (chain_claim s n t m any_class (U s n u hu l m) words_are) k ek h));
         blocks = eu;
-        parents = λ z. hu;
+        parents = hu;
       }
 
 -- ---- the loop that writes the parents

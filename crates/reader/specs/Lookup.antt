@@ -1,12 +1,7 @@
 -- Members from a class upward, as the code seeks them: the rows of its block, then its parent's. Assumes nothing.
-use Prim.Native.Nat.{ℕ, zero, suc, ◌+◌, ◌-◌, ◌*◌, ◌<◌, ◌≤◌}
-use Rattle.std.specs.Prelude.{◌≡◌, Bool, ltb, eqb, length}
-use Rattle.std.proofs.Math.Path.{refl, sym, ap}
-use Rattle.std.proofs.Common.{◌∙◌, eq-eqb, ne_eqb}
-use mathlib.Core.List.{List, [], ◌∷◌, ◌++◌, map}
-use Rattle.std.proofs.Math.Bool.{true, false, cond}
-use native.Mathlib.Omega.{arith}
-use Rattle.std.proofs.Math.ListN.{get_or, get_or-eq_default}
+use Rattle.std.specs.Prelude.{Option, Some, None, ◌≡◌, Bool, ltb, eqb, length}
+use Rattle.std.proofs.Common.{◌∙◌, eq-eqb, ne_eqb, lt-ltb, le-ltb, ℕ, zero, suc, ◌+◌, ◌-◌, ◌*◌, ◌<◌, ◌≤◌, refl, sym, ap, List, [], ◌∷◌, ◌++◌, map, true, false, cond, arith, get_or}
+use Rattle.std.proofs.Math.ListN.{get_or-eq_default}
 use Rattle.kit.specs.Lists.{eq_list, get_d_append_right}
 use Rattle.kit.specs.Words.{word}
 use Rattle.texts.specs.Names.{Text, init}
@@ -27,8 +22,9 @@ sigs_of true C = method_sigs C
 sigs_of false C = field_sigs C
 
 -- what the code's answer says
-abbrev pub hit_of : Hit → Spot
-hit_of r = cond r.found (spot r.class r.index) nowhere
+abbrev pub hit_of : Option Hit → Spot
+hit_of (Some h) = spot h.class h.index
+hit_of None = nowhere
 
 -- the member that class c itself has
 unfoldable pub own_spot : Program → (Class → List Signature) → Signature → ℕ → Spot
@@ -84,7 +80,7 @@ module _ (s : List ℕ) (n : ℕ) (t : List ℕ) (m : n ≤ 16) where
   class_past c h = get_or-eq_default (program_of (files_in s n t)).classes no_class (rw class-count h)
 
   -- the code's answer for a class of the bundle, and past it
-  pub own_high : (method : Bool) (g : Signature) (c i k : ℕ) → 11 ≤ c → c < 11 + n → i ≡ index_of g (row_sigs s (block_at t (c - 11)) method) → k ≡ row_count (block_at t (c - 11)) method
+  own_high : (method : Bool) (g : Signature) (c i k : ℕ) → 11 ≤ c → c < 11 + n → i ≡ index_of g (row_sigs s (block_at t (c - 11)) method) → k ≡ row_count (block_at t (c - 11)) method
       → cond (ltb i k) (spot c i) nowhere ≡ own_spot (program_of (files_in s n t)) (sigs_of method) g c
   unfolding own_spot
   own_high method g c i k l h ei ek =
@@ -92,6 +88,13 @@ module _ (s : List ℕ) (n : ℕ) (t : List ℕ) (m : n ≤ 16) where
       let e : sigs_of method (class (program_of (files_in s n t)) c) ≡ row_sigs s (block_at t (c - 11)) method =
       ap (λ (x : ℕ). sigs_of method (class (program_of (files_in s n t)) x)) (sym z) ∙ sigs_at method (c - 11) (omega arith) in
       rw (e, length_sigs s (block_at t (c - 11)) method, ei, ek)
+
+  module _ (method : Bool) (g : Signature) (c i k : ℕ) (l : 11 ≤ c) (h : c < 11 + n) (ei : i ≡ index_of g (row_sigs s (block_at t (c - 11)) method)) (ek : k ≡ row_count (block_at t (c - 11)) method) where
+    pub own_here : i < k → spot c i ≡ own_spot (program_of (files_in s n t)) (sigs_of method) g c
+    own_here y = sym (ap (λ (b : Bool). cond b (spot c i) nowhere) (lt-ltb i k y)) ∙ own_high method g c i k l h ei ek
+
+    pub own_not : k ≤ i → nowhere ≡ own_spot (program_of (files_in s n t)) (sigs_of method) g c
+    own_not y = sym (ap (λ (b : Bool). cond b (spot c i) nowhere) (le-ltb i k y)) ∙ own_high method g c i k l h ei ek
 
   pub own_past : (method : Bool) (g : Signature) (c : ℕ) → first_class + n ≤ c → nowhere ≡ own_spot (program_of (files_in s n t)) (sigs_of method) g c
   unfolding own_spot index_of
@@ -148,38 +151,36 @@ module _ (P : Program) (sigs : Class → List Signature) (g : Signature) (left c
   unfolding seek
   seek_out h = let z : left ≡ 0 = omega arith in sym (rw z) ∙ v
 
-  module _ (h : 0 < left) (r : Hit) (e : hit_of r ≡ own_spot P sigs g c) where
+  module _ (h : 0 < left) where
     step : seek P sigs g (suc (left - 1)) c ≡ X
     step = rw (← one_less left h) v
 
-    pub seek_hit : r.found ≡ true → hit_of r ≡ X
+    pub seek_hit : (d i : ℕ) → spot d i ≡ own_spot P sigs g c → spot d i ≡ X
     unfolding seek own_spot
-    seek_hit f = go (ltb (index_of g (sigs (class P c))) (length (sigs (class P c)))) (sym (rw f at e)) step
+    seek_hit d i e = go (ltb (index_of g (sigs (class P c))) (length (sigs (class P c)))) (sym e) step
       where
-        i : ℕ
-        i = index_of g (sigs (class P c))
-
-        go : (b : Bool) → cond b (spot c (index_of g (sigs (class P c)))) nowhere ≡ spot r.class r.index
+        go : (b : Bool) → cond b (spot c (index_of g (sigs (class P c)))) nowhere ≡ spot d i
             → cond b (spot c (index_of g (sigs (class P c)))) (cond (eqb c 0) nowhere (seek P sigs g (left - 1) (class P c).parent)) ≡ X
-            → hit_of r ≡ X
-        go true p q = rw f (sym p ∙ q)
-        go false p q = absurd (spot-nowhere r.class r.index (sym p))
+            → spot d i ≡ X
+        go true p q = sym p ∙ q
+        go false p q = absurd (spot-nowhere d i (sym p))
 
-    rest : r.found ≡ false → cond (eqb c 0) nowhere (seek P sigs g (left - 1) (class P c).parent) ≡ X
-    unfolding seek own_spot
-    rest f = go (ltb (index_of g (sigs (class P c))) (length (sigs (class P c)))) (sym (rw f at e)) step
-      where
-        go : (b : Bool) → cond b (spot c (index_of g (sigs (class P c)))) nowhere ≡ nowhere
-            → cond b (spot c (index_of g (sigs (class P c)))) (cond (eqb c 0) nowhere (seek P sigs g (left - 1) (class P c).parent)) ≡ X
-            → cond (eqb c 0) nowhere (seek P sigs g (left - 1) (class P c).parent) ≡ X
-        go true p q = absurd (spot-nowhere c (index_of g (sigs (class P c))) p)
-        go false p q = q
+    module _ (e : nowhere ≡ own_spot P sigs g c) where
+      rest : cond (eqb c 0) nowhere (seek P sigs g (left - 1) (class P c).parent) ≡ X
+      unfolding seek own_spot
+      rest = go (ltb (index_of g (sigs (class P c))) (length (sigs (class P c)))) (sym e) step
+        where
+          go : (b : Bool) → cond b (spot c (index_of g (sigs (class P c)))) nowhere ≡ nowhere
+              → cond b (spot c (index_of g (sigs (class P c)))) (cond (eqb c 0) nowhere (seek P sigs g (left - 1) (class P c).parent)) ≡ X
+              → cond (eqb c 0) nowhere (seek P sigs g (left - 1) (class P c).parent) ≡ X
+          go true p q = absurd (spot-nowhere c (index_of g (sigs (class P c))) p)
+          go false p q = q
 
-    pub seek_none : r.found ≡ false → c ≡ 0 → hit_of r ≡ X
-    seek_none f z = rw f (rw (eq-eqb c 0 z) at (rest f))
+      pub seek_none : c ≡ 0 → nowhere ≡ X
+      seek_none z = rw (eq-eqb c 0 z) at rest
 
-    pub seek_up : r.found ≡ false → (c ≡ 0 → ⊥) → (k : ℕ) → k ≡ (class P c).parent → seek P sigs g (left - 1) k ≡ X
-    seek_up f z k y = rw y (rw (ne_eqb c 0 z) at (rest f))
+      pub seek_up : (c ≡ 0 → ⊥) → (k : ℕ) → k ≡ (class P c).parent → seek P sigs g (left - 1) k ≡ X
+      seek_up z k y = rw y (rw (ne_eqb c 0 z) at rest)
 
 pub seek_start : (s : List ℕ) (n : ℕ) (t : List ℕ) (m : n ≤ 16) (sigs : Class → List Signature) (g : Signature) (from : ℕ)
     → seek (program_of (files_in s n t)) sigs g (11 + n) from ≡ lookup (program_of (files_in s n t)) sigs g from

@@ -1,19 +1,14 @@
 -- The program's members by the rows of the blocks. Assumes nothing.
-use Rattle.std.specs.Prelude.{ℕ, zero, suc, ◌+◌, ◌-◌, ◌*◌, ◌<◌, ◌≤◌, ◌≡◌, List, [], ◌∷◌, Bool, not, length, get_or, take, drop}
-use Rattle.std.proofs.Common.{sym, ◌∙◌, arith}
-use Rattle.std.proofs.Math.Path.{ap}
-use Rattle.std.proofs.Math.Bool.{true, false}
+use Rattle.std.specs.Prelude.{Option, ℕ, zero, suc, ◌+◌, ◌-◌, ◌*◌, ◌<◌, ◌≤◌, ◌≡◌, List, [], ◌∷◌, Bool, length, get_or}
+use Rattle.std.proofs.Common.{sym, ◌∙◌, arith, ap, true, false, eqb}
 use Rattle.std.specs.Bool.{beq}
-use Rattle.std.proofs.Math.Dec.{eqb}
 use Rattle.std.proofs.Math.ListN.{get_or-eq_default}
-use Rattle.std.proofs.lemmas.Bool.{not-true, not-false}
 use Rattle.kit.specs.Words.{word}
 use Rattle.texts.specs.Reading.{u2_at}
 use Rattle.texts.specs.Names.{Text}
-use Rattle.classfiles.specs.Table.{IsText}
 use Rattle.classfiles.specs.Attributes.{member_of}
 use Rattle.reader.specs.BuiltIns.{first_class}
-use Rattle.reader.specs.Program.{Signature, signature, Field, Method, Program, Class, no_field, no_method, built_in_method, class, method, number_in, class_names, field_of, method_of, class_of, program_of, method_sigs, Spot, lookup}
+use Rattle.reader.specs.Program.{Signature, signature, Field, Method, Program, Class, no_field, no_method, built_in_method, class, method, number_in, class_names, field_of, method_of, class_of, program_of, method_sigs, Spot, nowhere, spot, lookup}
 use Rattle.reader.specs.Link.{agrees}
 use Rattle.classfiles.specs.Blocks.{field_rows, method_rows, field_count, method_count, listed, pool_of, row_in, rows_in, class_in}
 use Rattle.classfiles.specs.BlockWords.{length-listed}
@@ -22,7 +17,6 @@ use Rattle.reader.specs.Linked.{files_in}
 use Rattle.reader.specs.MemberRows.{block_at, rows_word, count_word, row_start, row_count, row_at, row_sig, row-sig, sig_by}
 use Rattle.reader.specs.Lookup.{hit_of, class-at, class_past, built_in_class}
 use Rattle.reader.specs.declared.lookup.Hit.{Hit}
-use Rattle.classfiles.specs.declared.pool.Span.{Span}
 
 -- which class a name means
 abbrev pub number_as : List ℕ → ℕ → List ℕ → Text → ℕ
@@ -82,8 +76,8 @@ module _ (s : List ℕ) (n : ℕ) (t : List ℕ) (m : n ≤ 16) (c : ℕ) (h : c
   field-sig j l = ap (λ (F : Field). F.sig) (field_at j l) ∙ row-sig s b false j
 
   -- the method above, from what the code found
-  pub above_by : (j up : ℕ) (p d : Span) (r : Hit) → j < row_count b true → IsText s p (row_sig s b true j).name → IsText s d (row_sig s b true j).descriptor → up ≡ (class P (first_class + c)).parent
-      → hit_of r ≡ lookup P method_sigs (signature (take (p.end - p.start) (drop p.start s)) (take (d.end - d.start) (drop d.start s))) up
+  pub above_by : (j up : ℕ) (p d : Text) (r : Option Hit) → j < row_count b true → p ≡ (row_sig s b true j).name → d ≡ (row_sig s b true j).descriptor → up ≡ (class P (first_class + c)).parent
+      → hit_of r ≡ lookup P method_sigs (signature p d) up
       → hit_of r ≡ lookup P method_sigs (method P (first_class + c) j).sig (class P (first_class + c)).parent
   above_by j up p d r l x y e f =
       f ∙ ap (λ (g : Signature). lookup P method_sigs g up) (sig_by s b true j p d x y ∙ sym (method-sig j l))
@@ -120,20 +114,12 @@ module _ (s : List ℕ) (n : ℕ) (t : List ℕ) (c j : ℕ) where
           static-row s n t m (c - 11) (omega arith) j v z (w ∙ ap (u2_at s) f) ∙ ap (λ (i : ℕ). (method Q i j).static) number
 
 -- ---- as the one above
-module _ (s : List ℕ) (n : ℕ) (t : List ℕ) (a : Bool) (X : Spot) (h : Hit) (e : hit_of h ≡ X) where
+module _ (s : List ℕ) (n : ℕ) (t : List ℕ) (a : Bool) (X : Spot) where
   abbrev R : Program
   R = program_of (files_in s n t)
 
-  pub agrees_none : not h.found ≡ true → true ≡ agrees R a X
-  agrees_none f = rw (← e, not-true h.found f)
+  pub agrees_none : nowhere ≡ X → true ≡ agrees R a X
+  agrees_none e = rw (← e)
 
-  pub agrees_some : not h.found ≡ false → (b d r : Bool) → b ≡ a → d ≡ (method R h.class h.index).static → r ≡ beq b d → r ≡ agrees R a X
-  agrees_some f b d r p q v = rw (← e, not-false h.found f) (rw (p, q) at v)
-
-pub truth_yes : (a b : Bool) → a ≡ true → b ≡ beq a b
-truth_yes a true e = rw e
-truth_yes a false e = rw e
-
-pub truth_no : (a b : Bool) → a ≡ false → not b ≡ beq a b
-truth_no a true e = rw e
-truth_no a false e = rw e
+  pub agrees_some : (c i : ℕ) → spot c i ≡ X → (b d r : Bool) → b ≡ a → d ≡ (method R c i).static → r ≡ beq b d → r ≡ agrees R a X
+  agrees_some c i e b d r p q v = rw (← e) (rw (p, q) at v)

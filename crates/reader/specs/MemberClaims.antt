@@ -1,12 +1,11 @@
 -- Phase B's claims on members, as the code finds them: row by row. Assumes nothing.
-use Rattle.std.specs.Prelude.{ℕ, suc, ◌+◌, ◌*◌, ◌<◌, ◌≤◌, ◌≡◌, Bool, cond, not, length, get_or, drop}
-use Rattle.std.proofs.Math.Path.{sym, ap}
-use Rattle.std.proofs.Common.{◌∙◌, add-one, drop_of_length-le, drop-cons}
-use mathlib.Core.List.{List, [], ◌∷◌, ◌++◌}
-use Rattle.std.proofs.Math.Bool.{true, false}
-use Rattle.std.proofs.Math.Dec.{eqb}
+use Rattle.std.specs.Prelude.{Result, Ok, Err, ℕ, suc, ◌+◌, ◌*◌, ◌<◌, ◌≤◌, ◌≡◌, Bool, cond, not, length, get_or, drop}
+use Rattle.std.proofs.Common.{◌∙◌, add-one, drop_of_length-le, drop-cons, sym, ap, List, [], ◌∷◌, ◌++◌, true, false, eqb}
 use Rattle.std.proofs.lemmas.Bool.{not-true, not-false}
 use Rattle.kit.specs.Claims.{Claim, claim, Ruling, pass, fail, verdict, then, pass_then, fail_then, verdict-append, verdict_yes, verdict_no, verdict_none}
+use Rattle.texts.specs.Faults.{number}
+use Rattle.texts.specs.declared.faults.Refusal as faults
+use Rattle.texts.specs.declared.faults.Refusal.TheVariants.{Twice, Missing}
 use Rattle.kit.specs.Words.{word}
 use Rattle.reader.specs.Verdicts.{fault, Refusal, in_class, Verdict, each}
 use Rattle.classfiles.specs.Descriptors.{known_desc}
@@ -24,9 +23,10 @@ use Rattle.reader.specs.MemberRows.{block_at, rows_word, count_word, row_start, 
 use Rattle.reader.specs.Lookup.{sigs_at}
 use Rattle.reader.specs.MemberAt.{method-sig, field-sig}
 
--- number k on a member of class i that starts at p; 0 passes it
-abbrev pub rule_at : ℕ → ℕ → ℕ → Verdict
-rule_at i p k = cond (eqb k 0) pass (fail (in_class i (fault k p)))
+-- what the code's answer says of a member of class i that starts at p
+abbrev pub rule_at : ℕ → ℕ → Result (Unit {0}) faults.Refusal → Verdict
+rule_at i p (Ok u) = pass
+rule_at i p (Err k) = fail (in_class i (fault (number k) p))
 
 -- of methods or of fields
 abbrev pub claims_of : Program → ℕ → Bool → ℕ → Member → List (Claim Refusal)
@@ -95,18 +95,18 @@ module _ (s : List ℕ) (n : ℕ) (t : List ℕ) (m : n ≤ 16) (c : ℕ) (h : c
   claims_are = claims_by s n t m c h j method l
 
   module _ (u : Bool) (e : u ≡ first_at s b method j) where
-    pub member_double : not u ≡ true → rule_at c (row_start b method j) 8 ≡ verdict (claims_of P c method j (row_at s b method j))
+    pub member_double : not u ≡ true → rule_at c (row_start b method j) (Err Twice) ≡ verdict (claims_of P c method j (row_at s b method j))
     member_double f = sym (ap verdict claims_are ∙ verdict_no _ _ _ (sym e ∙ not-true u f))
 
     module _ (f : not u ≡ false) (k : Bool) (g : k ≡ member_known P c method j) where
       first_holds : verdict (claims_of P c method j (row_at s b method j)) ≡ verdict (claim (in_class c (fault 9 (row_start b method j))) (member_known P c method j) ∷ [])
       first_holds = ap verdict claims_are ∙ verdict_yes _ _ _ (sym e ∙ not-false u f)
 
-      pub member_unknown : k ≡ false → rule_at c (row_start b method j) 9 ≡ verdict (claims_of P c method j (row_at s b method j))
+      pub member_unknown : k ≡ false → rule_at c (row_start b method j) (Err Missing) ≡ verdict (claims_of P c method j (row_at s b method j))
       member_unknown z = sym (first_holds ∙ verdict_no _ _ _ (sym g ∙ z))
 
-      pub member_fine : k ≡ true → rule_at c (row_start b method j) 0 ≡ verdict (claims_of P c method j (row_at s b method j))
-      member_fine z = sym (first_holds ∙ verdict_yes _ _ _ (sym g ∙ z) ∙ verdict_none)
+      pub member_fine : k ≡ true → (v : Unit {0}) → rule_at c (row_start b method j) (Ok v) ≡ verdict (claims_of P c method j (row_at s b method j))
+      member_fine z v = sym (first_holds ∙ verdict_yes _ _ _ (sym g ∙ z) ∙ verdict_none)
 
 -- ---- the members of class c are its rows
 module _ (s t : List ℕ) (c : ℕ) where

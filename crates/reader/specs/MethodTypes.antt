@@ -1,9 +1,6 @@
 -- The methods' types as linking leaves them in the scratch, and the steps that write them. Assumes nothing.
 use Rattle.std.specs.Prelude.{ℕ, ◌+◌, ◌*◌, ◌%◌, ◌<◌, ◌≤◌, ◌≡◌, refl, List, ◌++◌, Bool, true, ◌⊎◌, length, take, drop}
-use Rattle.std.proofs.Common.{sym, subst, ◌∙◌, inl, inr, length-take, get_or-take}
-use Rattle.std.proofs.Math.Path.{ap}
-use native.Mathlib.Omega.{arith}
-use Rattle.std.proofs.Math.ListN.{get_or}
+use Rattle.std.proofs.Common.{sym, subst, ◌∙◌, inl, inr, length-take, get_or-take, ap, arith, get_or}
 use Rattle.kit.specs.Pick.{side}
 use Rattle.classfiles.specs.Limits.{max_parameters}
 use Rattle.texts.specs.Names.{Text}

@@ -1,12 +1,7 @@
 -- Class names and their numbers, as the code finds them. Assumes nothing.
-use Prim.Native.Nat.{ℕ, zero, suc, ◌+◌, ◌-◌, ◌*◌, ◌<◌, ◌≤◌}
 use Rattle.std.specs.Prelude.{◌≡◌, Bool, not, ◌⊎◌, take, drop}
-use Rattle.std.proofs.Math.Path.{refl, sym, ap}
-use Rattle.std.proofs.Common.{subst, ◌∙◌, inl, inr, zero-add, take_all}
-use mathlib.Core.List.{List, [], ◌∷◌, ◌++◌, map}
-use Rattle.std.proofs.Math.Bool.{true, false, cond}
-use native.Mathlib.Omega.{arith}
-use Rattle.std.proofs.Math.ListN.{length, get_or, get_or-append}
+use Rattle.std.proofs.Common.{Bor, ◌∙◌, inl, inr, zero-add, add-one, drop-cons, drop_of_length-le, ℕ, zero, suc, ◌+◌, ◌*◌, ◌<◌, ◌≤◌, refl, sym, ap, List, [], ◌∷◌, ◌++◌, map, true, false, cond, arith, length, get_or}
+use Rattle.std.proofs.Math.ListN.{get_or-append}
 use Rattle.std.proofs.lemmas.List.{get_or_at}
 use Rattle.kit.specs.Lists.{eq_list}
 use Rattle.kit.specs.Pick.{side}
@@ -15,13 +10,11 @@ use Rattle.kit.specs.Words.{word}
 use Rattle.texts.specs.Reading.{u2_at}
 use Rattle.texts.specs.Names.{Text}
 use Rattle.classfiles.specs.Pool.{class_text}
-use Rattle.classfiles.specs.Table.{pool_in, IsText}
 use Rattle.classfiles.specs.Bundle.{ClassFile}
 use Rattle.reader.specs.BuiltIns.{BuiltIn, built_ins, first_class}
 use Rattle.reader.specs.Program.{number_in, class_names}
-use Rattle.classfiles.specs.Blocks.{block_size, pool_word, this_word, listed, pool_of, class_in, classes_in}
+use Rattle.classfiles.specs.Blocks.{block_size, this_word, listed, pool_of, class_in, classes_in}
 use Rattle.classfiles.specs.BlockWords.{length-listed}
-use Rattle.classfiles.specs.declared.pool.Span.{Span}
 
 -- class c of the blocks in t
 abbrev pub class_at : List ℕ → List ℕ → ℕ → ClassFile
@@ -126,22 +119,41 @@ module _ (xs ys : List Text) (x : Text) where
           at true l rec = absurd (omega arith)
           at false l rec = ap suc (rec (omega arith)) ∙ omega arith
 
--- a chain of tests, counted from k on
-unfoldable pub number_up : ℕ → List Text → Text → ℕ
-number_up k [] x = k
-number_up k (n ∷ ns) x = cond (eq_list n x) k (number_up (suc k) ns x)
+-- lent names searched from the front, of which i have passed
+abbrev pub lent : List (Bor Text) → List Text
+lent ts = map (λ (b : Bor Text). b.now) ts
 
-up_is : (k : ℕ) (ns : List Text) (x : Text) → number_up k ns x ≡ k + number_in ns x
-unfolding number_up number_in
-up_is k [] x = omega arith
-up_is k (n ∷ ns) x = go (eq_list n x) (up_is (suc k) ns x)
-  where
-    go : (t : Bool) → number_up (suc k) ns x ≡ suc k + number_in ns x → cond t k (number_up (suc k) ns x) ≡ k + cond t 0 (suc (number_in ns x))
-    go true h = omega arith
-    go false h = h ∙ omega arith
+lent-length : (ts : List (Bor Text)) → length (lent ts) ≡ length ts
+lent-length [] = refl
+lent-length (t ∷ ts) = ap suc (lent-length ts)
 
-pub number_up_lem : (ns : List Text) (x : Text) (r : ℕ) → r ≡ number_up 0 ns x → r ≡ number_in ns x
-number_up_lem ns x r h = h ∙ up_is 0 ns x ∙ zero-add (number_in ns x)
+lent-at : (ts : List (Bor Text)) (d : Bor Text) (j : ℕ) → j < length ts → get_or (lent ts) j [] ≡ (get_or ts j d).now
+lent-at [] d j l = absurd (omega arith)
+lent-at (t ∷ ts) d zero l = refl
+lent-at (t ∷ ts) d (suc j) l = lent-at ts d j (omega arith)
+
+module _ (ts : List (Bor Text)) (x : Text) (i : ℕ) (v : i + number_in (drop i (lent ts)) x ≡ number_in (lent ts) x) where
+  module _ (d : Bor Text) (l : i < length ts) (q : Bool) (e : q ≡ eq_list (get_or ts i d).now x) where
+    from-here : i + number_in (get_or (lent ts) i [] ∷ drop (suc i) (lent ts)) x ≡ number_in (lent ts) x
+    from-here = ap (λ (xs : List Text). i + number_in xs x) (sym (drop-cons (lent ts) i [] (omega (arith, lent-length ts)))) ∙ v
+
+    same_at : q ≡ eq_list (get_or (lent ts) i []) x
+    same_at = e ∙ ap (λ (t : Text). eq_list t x) (sym (lent-at ts d i l))
+
+    pub name_here : q ≡ true → i ≡ number_in (lent ts) x
+    unfolding number_in
+    name_here f = let z : i ≡ i + 0 = omega arith in z ∙ (rw (sym same_at ∙ f) at from-here)
+
+    pub name_on : q ≡ false → i + 1 + number_in (drop (i + 1) (lent ts)) x ≡ number_in (lent ts) x
+    unfolding number_in
+    name_on f = let z = rw (sym same_at ∙ f) at from-here in rw (add-one i) (omega (arith, z))
+
+  pub name_past : (n : ℕ) → n ≡ length ts → n ≤ i → i ≤ n → n ≡ number_in (lent ts) x
+  unfolding number_in
+  name_past n h l g =
+      let y : drop i (lent ts) ≡ [] = drop_of_length-le (lent ts) (omega (arith, lent-length ts)) in
+      let w : n ≡ i + 0 = omega arith in
+      w ∙ (rw y at v)
 
 -- the built-in names, of which the first six are looked at first
 module _ (x : Text) (k : ℕ) (h : k ≡ number_in low_names x) where
@@ -152,10 +164,6 @@ module _ (x : Text) (k : ℕ) (h : k ≡ number_in low_names x) where
   pub high_name : (j : ℕ) → j ≡ number_in high_names x → 6 ≤ k → 6 + j ≡ number_in built_in_names x
   unfolding built_in_names low_names high_names built_ins
   high_name j e l = ap (λ (m : ℕ). 6 + m) e ∙ sym (number-back low_names high_names x (omega arith))
-
-pub high_le : (x : Text) (j : ℕ) → j ≡ number_in high_names x → j ≤ 5
-unfolding built_in_names high_names built_ins
-high_le x j e = omega (arith, number-le high_names x)
 
 -- the built-in names, then the bundle's
 module _ (fs : List ClassFile) (x : Text) (k : ℕ) (h : k ≡ number_in built_in_names x) where
@@ -168,30 +176,10 @@ module _ (fs : List ClassFile) (x : Text) (k : ℕ) (h : k ≡ number_in built_i
   bundle-name j e l = ap (λ (m : ℕ). first_class + m) e ∙ sym (number-back built_in_names (bundle_names fs) x (omega arith))
 
 -- ---- names in a block
-module _ (b : List ℕ) (k : ℕ) (h : k ≡ word b pool_word) where
-  pub tags-all : length b ≡ block_size → 1608 < k → take 6432 b ≡ take (4 * word b pool_word) b
-  tags-all l g = take_all 6432 b (omega arith) ∙ sym (take_all (4 * word b pool_word) b (omega arith))
-
-  pub tags_some : take (4 * k) b ≡ take (4 * word b pool_word) b
-  tags_some = ap (λ (n : ℕ). take (4 * n) b) h
-
-pub text_as : (s b : List ℕ) (e i : ℕ) (r : Span) → take e b ≡ take (4 * word b pool_word) b → IsText s r (class_text (pool_in s (take (e - 0) (drop 0 b))) i)
-    → IsText s r (class_text (pool_of s b) i)
-unfolding pool_of
-text_as s b e i r h t =
-    let z : e - 0 ≡ e = omega arith in
-    subst (λ (l : List ℕ). IsText s r (class_text (pool_in s l) i)) (ap (λ (n : ℕ). take n b) z ∙ h) t
-
-pub name_as : (s b : List ℕ) (p i : ℕ) (r : Span) → p ≡ word b this_word → i ≡ u2_at s p → IsText s r (class_text (pool_of s b) i) → IsText s r (class_in s b).name
+pub name_as : (s b : List ℕ) (p i : ℕ) (x : Text) → p ≡ word b this_word → i ≡ u2_at s p → x ≡ class_text (pool_of s b) i → x ≡ (class_in s b).name
 unfolding class_in
-name_as s b p i r h e t = subst (λ (n : ℕ). IsText s r (class_text (pool_of s b) n)) (e ∙ ap (u2_at s) h) t
+name_as s b p i x h e t = t ∙ ap (class_text (pool_of s b)) (e ∙ ap (u2_at s) h)
 
--- the part that a block is lent as
-pub part-block : (t : List ℕ) (c : ℕ) → take (6432 * c + 6432 - 6432 * c) (drop (6432 * c) t) ≡ take block_size (drop (block_size * c) t)
-part-block t c = let z : 6432 * c + 6432 - 6432 * c ≡ 6432 = omega arith in ap (λ (n : ℕ). take n (drop (6432 * c) t)) z
-
-pub other_as : (s t x : List ℕ) (c : ℕ) (p : Span) (q : Bool) → IsText s p (class_in s (take (6432 * c + 6432 - 6432 * c) (drop (6432 * c) t))).name
-    → q ≡ eq_list (take (p.end - p.start) (drop p.start s)) x → not q ≡ other_name s t x c
+pub other_as : (s t x : List ℕ) (c : ℕ) (p : Text) (q : Bool) → p ≡ (class_at s t c).name → q ≡ eq_list p x → not q ≡ other_name s t x c
 unfolding other_name
-other_as s t x c p q h e =
-    ap not (e ∙ ap (λ (y : List ℕ). eq_list y x) (h.is ∙ ap (λ (b : List ℕ). (class_in s b).name) (part-block t c)))
+other_as s t x c p q h e = ap not (e ∙ ap (λ (y : List ℕ). eq_list y x) h)

@@ -1,16 +1,15 @@
 -- What a call of the reader answers and leaves, on every path, and its result in bytes.
-use Rattle.std.specs.Prelude.{ℕ, ◌+◌, ◌*◌, ◌%◌, ◌/◌, ◌≤◌, ◌<◌, ◌^◌, ◌≡◌, refl, true, false, cond, List, [], ◌∷◌, ◌++◌, ltb, eqb, length, get_or, replicate}
-use Rattle.std.proofs.Math.Path.{sym}
-use Rattle.std.proofs.Common.{ap, subst, ◌∙◌, lt-ltb, le-ltb, eq-eqb, ne_eqb}
-use native.Mathlib.Omega.{arith}
+use Rattle.std.specs.Prelude.{ℕ, Ok, Err, ◌+◌, ◌*◌, ◌%◌, ◌/◌, ◌≤◌, ◌<◌, ◌^◌, ◌≡◌, refl, cond, List, [], ◌∷◌, ◌++◌, ltb, eqb, length, get_or, replicate}
+use Rattle.std.proofs.Common.{ap, subst, ◌∙◌, lt-ltb, le-ltb, eq-eqb, ne_eqb, sym, arith}
 use Rattle.kit.specs.Claims.{pass, fail}
 use Rattle.kit.specs.Words.{put_word}
+use Rattle.texts.specs.Faults.{number}
 use Rattle.classfiles.specs.Limits.{scratch_size, unnamed}
-use Rattle.reader.specs.Verdicts.{fault, in_bundle, in_method, Verdict, numbers}
+use Rattle.reader.specs.Verdicts.{fault, in_bundle, Verdict, numbers}
 use Rattle.reader.specs.Link.{Read, refused, program, read_bundle}
 use Rattle.reader.specs.FaultNumbers.{LowRead, read_low}
 use Rattle.reader.specs.Whole.{IsReading}
-use Rattle.reader.specs.declared.whole.Reading.{Reading}
+use Rattle.reader.specs.declared.link.Refused.{Refused}
 use Rattle.reader.specs.declared.outlet.Answer.{Answer}
 
 -- ---- the answer of phases A and B, and the scratch: too short it is 20 and stays, otherwise it ends all zero
@@ -97,23 +96,20 @@ pub too_short : (s t : List ℕ) → length t < scratch_size → IsOutcome s t (
 unfolding numbers
 too_short s t h = record { says = rw (short_outcome s t h); leaves = rw (short_outcome s t h); small = omega arith }
 
-module _ (s t u v : List ℕ) (h : scratch_size ≤ length t) (r : Reading) (x : IsReading s r u) (l : length u ≡ length t) (z : v ≡ replicate (length u) 0) where
+module _ (s t u v : List ℕ) (h : scratch_size ≤ length t) (l : length u ≡ length t) (z : v ≡ replicate (length u) 0) where
   zeros : v ≡ (read_outcome s t).scratch
   zeros = z ∙ ap (λ (n : ℕ). replicate n 0) l ∙ sym (ap (λ (y : Outcome). y.scratch) (long_outcome s t h))
 
-  pub read_pass : r.ok ≡ true → IsOutcome s t (answer 0 unnamed unnamed 0) v
+  pub read_pass : (n : ℕ) → IsReading s (Ok n) u → IsOutcome s t (answer 0 unnamed unnamed 0) v
   unfolding numbers read_verdict
-  read_pass o = record { says = rw (long_outcome s t h, ← x.is, o); leaves = zeros; small = omega arith }
+  read_pass n x = record { says = rw (long_outcome s t h, ← x.is); leaves = zeros; small = omega arith }
 
-  pub read_fail : r.ok ≡ false → IsOutcome s t (answer r.number r.class unnamed r.place) v
+  pub read_fail : (e : Refused) → IsReading s (Err e) u → (a : Answer) → a ≡ answer (number e.refusal) e.class unnamed e.place → IsOutcome s t a v
   unfolding numbers read_verdict
-  read_fail o = record { says = rw (long_outcome s t h, ← x.is, o); leaves = zeros; small = omega (arith, low) }
+  read_fail e x a w = rw w (record { says = rw (long_outcome s t h, ← x.is); leaves = zeros; small = omega (arith, low) })
     where
-      is : read_bundle s ≡ refused (in_method r.class unnamed (fault r.number r.place))
-      is = sym x.is ∙ rw o
-
-      low : r.number ≤ 9
-      low = subst LowRead is (read_low s)
+      low : number e.refusal ≤ 9
+      low = subst LowRead (sym x.is) (read_low s)
 
 low_byte : (x y k : ℕ) → y ≡ 256 * k + x → x % 256 ≡ y % 256
 low_byte x y k e = omega arith

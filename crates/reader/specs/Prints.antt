@@ -1,10 +1,6 @@
 -- A word for each member, made of its name and descriptor: members of one signature have one print, so a search compares words first. Assumes nothing.
-use Prim.Native.Nat.{ℕ, zero, suc, ◌+◌, ◌-◌, ◌*◌, ◌/◌, ◌%◌, ◌^◌, ◌<◌, ◌≤◌}
-use Rattle.std.specs.Prelude.{◌≡◌, List, Bool, cond, ◌&&◌, ◌⊎◌, eqb, length, get_or, take, drop}
-use Rattle.std.proofs.Math.Path.{refl, sym, ap}
-use Rattle.std.proofs.Common.{subst, ◌∙◌, inl, inr, add-one, length-take, length-drop, take-take, drop-drop, eq-eqb}
-use Rattle.std.proofs.Math.Bool.{true, false, not}
-use native.Mathlib.Omega.{arith}
+use Rattle.std.specs.Prelude.{◌≡◌, List, Bool, cond, ◌&&◌, ◌||◌, ◌⊎◌, eqb, length, get_or, take, drop}
+use Rattle.std.proofs.Common.{subst, ◌∙◌, inl, inr, add-one, length-take, length-drop, take-take, drop-drop, eq-eqb, ℕ, zero, suc, ◌+◌, ◌-◌, ◌*◌, ◌/◌, ◌%◌, ◌^◌, ◌<◌, ◌≤◌, refl, sym, ap, true, false, not, arith}
 use Rattle.std.proofs.lemmas.Bool.{not-false}
 use Rattle.kit.specs.Bools.{not_so}
 use Rattle.kit.specs.Lists.{eq_list, eq_list_true, eq_list_refl, drop-take}
@@ -12,14 +8,11 @@ use Rattle.kit.specs.Pick.{side}
 use Rattle.kit.specs.Scan.{first_not, all_of, first_all, all_more, all_none, all_at}
 use Rattle.kit.specs.Words.{word, put_word, word-drop, word-part, word_same, word_other, length_put}
 use Rattle.texts.specs.Names.{Text}
-use Rattle.classfiles.specs.Table.{IsText}
 use Rattle.reader.specs.Program.{Signature, signature, same_signature}
 use Rattle.classfiles.specs.Blocks.{block_size}
 use Rattle.classfiles.specs.BlockWords.{take_put}
-use Rattle.reader.specs.Numbers.{part-block}
 use Rattle.reader.specs.Linked.{parents_at}
 use Rattle.reader.specs.MemberRows.{block_at, row_count, row_sig, other_sig, first_at, index_first, sig_by}
-use Rattle.classfiles.specs.declared.pool.Span.{Span}
 
 -- ---- the print
 -- n words of a text from word i on, on top of h
@@ -75,13 +68,13 @@ pub has_start : (b : List ℕ) (p : ℕ) → false ≡ has_word b p 0
 unfolding has_word
 has_start b p = sym (ap not (all_none (other_word b p)))
 
-pub has_next : (b : List ℕ) (p i : ℕ) (h q : Bool) (a : ℕ) → h ≡ has_word b p i → a ≡ word b i → q ≡ cond (eqb a p) true h → q ≡ has_word b p (i + 1)
+pub has_next : (b : List ℕ) (p i : ℕ) (h : Bool) (a : ℕ) → h ≡ has_word b p i → a ≡ word b i → (h || eqb a p) ≡ has_word b p (i + 1)
 unfolding has_word other_word
-has_next b p i h q a e f g =
-    g ∙ ap (λ (k : ℕ). cond (eqb k p) true h) f ∙ ap (cond (eqb (word b i) p) true) e ∙ by (all_of (other_word b p) i) (eqb (word b i) p)
+has_next b p i h a e f =
+    ap (λ (k : ℕ). h || eqb k p) f ∙ ap (λ (k : Bool). k || eqb (word b i) p) e ∙ by (all_of (other_word b p) i) (eqb (word b i) p)
     ∙ sym (ap not (all_more (other_word b p) i))
   where
-    by : (a e : Bool) → cond e true (not a) ≡ not (a && not e)
+    by : (a e : Bool) → (not a || e) ≡ not (a && not e)
     by true true = refl
     by true false = refl
     by false true = refl
@@ -185,48 +178,41 @@ first_under s b method j r g y l e =
     zj : 0 + j ≡ j
     zj = omega arith
 
--- ---- a class's rows: m of them, w words on, as the code lends them
-module _ (s t : List ℕ) (c : ℕ) (method : Bool) (h : PrintedAt s t c method) (m w : ℕ) (e : w ≡ prints_word c method) (l : m ≤ row_count (block_at t c) method) where
-  lent-word : (j : ℕ) → j < m → word (take (4 * w + 4 * m - 4 * w) (drop (4 * w) t)) j ≡ print_of (row_sig s (block_at t c) method j)
-  lent-word j k = word-part w (4 * w + 4 * m - 4 * w) t j (omega arith) ∙ ap (λ (v : ℕ). word t (v + j)) e ∙ h.at j (omega arith)
+-- ---- the prints of a class's first m rows, as the code lends them
+module _ (s t : List ℕ) (c : ℕ) (method : Bool) (h : PrintedAt s t c method) (m : ℕ) (l : m ≤ row_count (block_at t c) method) (w : List ℕ) (e : w ≡ take (4 * m) (drop (4 * prints_word c method) t)) where
+  lent-word : (j : ℕ) → j < m → word w j ≡ print_of (row_sig s (block_at t c) method j)
+  lent-word j k = ap (λ (v : List ℕ). word v j) e ∙ word-part (prints_word c method) (4 * m) t j (omega arith) ∙ h.at j (omega arith)
 
-  pub lent_prints : RowPrints s (take (6432 * c + 6432 - 6432 * c) (drop (6432 * c) t)) method m (take (4 * w + 4 * m - 4 * w) (drop (4 * w) t))
-  lent_prints = record { at = λ j k. lent-word j k ∙ ap (λ (b : List ℕ). print_of (row_sig s b method j)) (sym (part-block t c)) }
+  pub lent_prints : RowPrints s (block_at t c) method m w
+  lent_prints = record { at = lent-word }
 
-  pub first_none : c < 16 → (g : Signature) (p : ℕ) → p ≡ print_of g → (r : Bool)
-      → r ≡ has_word (take (4 * w + 4 * m - 4 * w) (drop (4 * w) t)) p (length (take (4 * w + 4 * m - 4 * w) (drop (4 * w) t)) / 4) → r ≡ false
-      → m ≡ first_not (other_sig s (block_at t c) method g) m 0
+  pub first_none : c < 16 → (g : Signature) (p : ℕ) → p ≡ print_of g → (r : Bool) → r ≡ has_word w p (length w / 4) → r ≡ false → m ≡ first_not (other_sig s (block_at t c) method g) m 0
   first_none o g p f r q z =
       sym (first_all (other_sig s (block_at t c) method g) m 0
       (λ k a b. sym (other_by_print s (block_at t c) method g k _ p (lent-word k (omega arith)) f
-      (λ x. has_none (take (4 * w + 4 * m - 4 * w) (drop (4 * w) t)) p _ r q z k (omega (arith, whole)) x)))
+      (λ x. has_none w p _ r q z k (omega (arith, whole)) x)))
       ∙ omega arith)
     where
-      whole : length (take (4 * w + 4 * m - 4 * w) (drop (4 * w) t)) ≡ 4 * m
-      whole = omega (arith, length-take (4 * w + 4 * m - 4 * w) (drop (4 * w) t), length-drop (4 * w) t, e, (word_of c method o).1, h.long, h.few)
+      whole : length w ≡ 4 * m
+      whole = ap length e ∙ omega (arith, length-take (4 * m) (drop (4 * prints_word c method) t), length-drop (4 * prints_word c method) t, (word_of c method o).1, h.long, h.few)
 
 -- row j, where no print before it is its own
-pub first_lone : (s t : List ℕ) (c : ℕ) (method : Bool) (h : PrintedAt s t c method) (j w : ℕ) → w ≡ prints_word c method → c < 16 → j < row_count (block_at t c) method
-    → (p : ℕ) → p ≡ word t (w + j) → (r : Bool)
-    → r ≡ has_word (take (4 * w + 4 * j - 4 * w) (drop (4 * w) t)) p (length (take (4 * w + 4 * j - 4 * w) (drop (4 * w) t)) / 4) → r ≡ false → true ≡ first_at s (block_at t c) method j
+pub first_lone : (s t : List ℕ) (c : ℕ) (method : Bool) (h : PrintedAt s t c method) (j : ℕ) (w : List ℕ) → w ≡ take (4 * j) (drop (4 * prints_word c method) t) → c < 16 → j < row_count (block_at t c) method
+    → (p : ℕ) → p ≡ word t (prints_word c method + j) → (r : Bool) → r ≡ has_word w p (length w / 4) → r ≡ false → true ≡ first_at s (block_at t c) method j
 first_lone s t c method h j w e o l p f r q z =
     sym (eq-eqb j j refl)
     ∙ first_under s (block_at t c) method j j (row_sig s (block_at t c) method j) refl l
-    (first_none s t c method h j w e (omega arith) o (row_sig s (block_at t c) method j) p (f ∙ ap (λ (v : ℕ). word t (v + j)) e ∙ h.at j l) r q z)
-
-pub first_block : (s t : List ℕ) (c : ℕ) (method : Bool) (g : Signature) (m r : ℕ) → r ≡ first_not (other_sig s (take (6432 * c + 6432 - 6432 * c) (drop (6432 * c) t)) method g) m 0
-    → r ≡ first_not (other_sig s (block_at t c) method g) m 0
-first_block s t c method g m r h = h ∙ ap (λ (b : List ℕ). first_not (other_sig s b method g) m 0) (part-block t c)
+    (first_none s t c method h j (omega arith) w e o (row_sig s (block_at t c) method j) p (f ∙ h.at j l) r q z)
 
 -- the print that stands for row j is that of its texts
-pub print_texts : (s t : List ℕ) (c : ℕ) (method : Bool) (j a : ℕ) (p d : Span) → PrintedAt s t c method → j < row_count (block_at t c) method → a ≡ word t (prints_word c method + j)
-    → IsText s p (row_sig s (block_at t c) method j).name → IsText s d (row_sig s (block_at t c) method j).descriptor
-    → a ≡ print_of (signature (take (p.end - p.start) (drop p.start s)) (take (d.end - d.start) (drop d.start s)))
+pub print_texts : (s t : List ℕ) (c : ℕ) (method : Bool) (j a : ℕ) (p d : Text) → PrintedAt s t c method → j < row_count (block_at t c) method → a ≡ word t (prints_word c method + j)
+    → p ≡ (row_sig s (block_at t c) method j).name → d ≡ (row_sig s (block_at t c) method j).descriptor
+    → a ≡ print_of (signature p d)
 print_texts s t c method j a p d h l e x y = e ∙ h.at j l ∙ ap print_of (sym (sig_by s (block_at t c) method j p d x y))
 
 -- the print of a row's texts is the row's
-pub texts_print : (s b : List ℕ) (method : Bool) (j a : ℕ) (p d : Span) → IsText s p (row_sig s b method j).name → IsText s d (row_sig s b method j).descriptor
-    → a ≡ print_of (signature (take (p.end - p.start) (drop p.start s)) (take (d.end - d.start) (drop d.start s))) → a ≡ print_of (row_sig s b method j)
+pub texts_print : (s b : List ℕ) (method : Bool) (j a : ℕ) (p d : Text) → p ≡ (row_sig s b method j).name → d ≡ (row_sig s b method j).descriptor
+    → a ≡ print_of (signature p d) → a ≡ print_of (row_sig s b method j)
 texts_print s b method j a p d x y e = e ∙ ap print_of (sig_by s b method j p d x y)
 
 -- ---- what stands elsewhere may change

@@ -1,7 +1,7 @@
 -- Types as codes of one byte, brackets + 8 * base: what a code stands for, and the methods' types as they are kept. Assumes nothing.
-use Rattle.std.specs.Prelude.{ℕ, zero, suc, ◌+◌, ◌*◌, ◌/◌, ◌%◌, ◌≤◌, ◌≡◌, List, [], ◌∷◌, ◌++◌, Bool, true, false, cond, ltb, eqb, length, get_or, take, drop}
+use Rattle.std.specs.Prelude.{Result, Ok, Err, IfOk, ℕ, zero, suc, ◌+◌, ◌*◌, ◌/◌, ◌%◌, ◌≤◌, ◌≡◌, List, [], ◌∷◌, ◌++◌, Bool, true, false, cond, ltb, eqb, length, get_or, take, drop}
 use Rattle.classfiles.specs.Limits.{max_parameters}
-use Rattle.texts.specs.Reading.{ok, bad, pre}
+use Rattle.texts.specs.Reading.{Res, ok, bad, pre}
 use Rattle.texts.specs.Names.{Text}
 use Rattle.classfiles.specs.Descriptors.{Ref, cls, arr, Desc, dint, dref, method_type_at, params_at, known_desc}
 use Rattle.classfiles.specs.Blocks.{listed}
@@ -9,6 +9,8 @@ use Rattle.reader.specs.Program.{number_in, class_names, method_type_or, program
 use Rattle.reader.specs.Link.{all_known}
 use Rattle.reader.specs.Linked.{files_in}
 use Rattle.reader.specs.declared.types.Listed.{Listed}
+use Rattle.texts.specs.Faults.{number}
+use Rattle.texts.specs.declared.faults.Fault.{Fault}
 
 -- ---- codes
 -- int, by a number that no class has
@@ -91,12 +93,17 @@ pub record ParamsRead (m : ℕ) (number : Text → ℕ) (x : Text) (w at left co
   pub most : count ≤ max_parameters
   pub aside : Aside w 16 t u
 
-pub record ParamsKept (m : ℕ) (number : Text → ℕ) (x : Text) (w : ℕ) (r : Listed) (t u : List ℕ) : Type 0 where
+-- ds and the position past them, or the fault
+abbrev pub listed_as : List Desc → Result Listed Fault → Res (List Desc)
+listed_as ds (Ok r) = ok ds r.at
+listed_as ds (Err e) = bad (number e.0) e.1
+
+pub record ParamsKept (m : ℕ) (number : Text → ℕ) (x : Text) (w : ℕ) (r : Result Listed Fault) (t u : List ℕ) : Type 0 where
   pub ds : List Desc
-  pub is : params_at number x 0 (length x) 1 ≡ cond r.ok (ok ds r.at) (bad r.val r.at)
-  pub codes : codes_in u w r.count ≡ take max_parameters ds
-  pub known : r.known ≡ known_all m ds
-  pub most : r.count ≤ max_parameters
+  pub is : params_at number x 0 (length x) 1 ≡ listed_as ds r
+  pub codes : IfOk r (λ l. codes_in u w l.count ≡ take max_parameters ds)
+  pub known : IfOk r (λ l. l.known ≡ known_all m ds)
+  pub most : IfOk r (λ l. l.count ≤ max_parameters)
   pub aside : Aside w 16 t u
 
 -- the entry's other two bytes

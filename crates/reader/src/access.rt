@@ -2,7 +2,7 @@
 ghost use Rattle.std.specs.Prelude.{◌≡◌, false, ◌*◌, ◌+◌, ◌^◌, ◌<◌, ◌≤◌, length, get_or};
 ghost use Rattle.kit.specs.Words.{word};
 ghost use Rattle.classfiles.specs.Pool.{entry, text};
-ghost use Rattle.classfiles.specs.Table.{constant_of, Inside, IsText};
+ghost use Rattle.classfiles.specs.Table.{constant_of};
 ghost use Rattle.reader.specs.BuiltIns.{first_class};
 ghost use Rattle.reader.specs.Program.{no_field, class, program_of, own_types, layout};
 ghost use Rattle.classfiles.specs.Blocks.{block_size, method_rows, pool_of};
@@ -11,44 +11,24 @@ ghost use Rattle.reader.specs.MemberRows.{block_at, row_count};
 ghost use Rattle.reader.specs.TypeCodes.{desc_of};
 ghost use Rattle.reader.specs.Access.{Limited};
 
-use crate::{link, lookup, signature, types};
+use crate::{blocks, lookup, signature, types};
 use classfiles::pool;
-use classfiles::pool::{Entry, Span};
-
-fn entry(s: &[u8], b: &[u8], i: usize) -> Entry
-    requires { length b.now ≡ block_size }
-    ensures { (constant_of s.now result ≡ entry (pool_of s.now b.now) i) × Inside (length s.now) result }
-{
-    let e = link::tags_end(b);
-    pool::entry_of(s, &b[0..e], i)
-}
+use classfiles::pool::Entry;
 
 // Entry i of class c's pool.
-pub fn entry_in(s: &[u8], t: &[u8], c: usize, i: usize) -> Entry
+pub fn entry_in<'a>(s: &'a [u8], t: &[u8], c: usize, i: usize) -> Entry<'a>
     requires { (c < 16) × (16 * block_size ≤ length t.now) }
-    ensures { (constant_of s.now result ≡ entry (pool_of s.now (block_at t.now c)) i) × Inside (length s.now) result }
+    ensures { constant_of result ≡ entry (pool_of s.now (block_at t.now c)) i }
 {
-    let a = 6432 * c;
-    let e = a + 6432;
-    entry(s, &t[a..e], i)
+    pool::entry_of(s, blocks::tags(blocks::block(t, c)), i)
 }
 
-fn text(s: &[u8], b: &[u8], i: usize) -> Span
-    requires { length b.now ≡ block_size }
-    ensures { IsText s.now result (text (pool_of s.now b.now) i) }
-{
-    let e = link::tags_end(b);
-    pool::text_of(s, &b[0..e], i)
-}
-
-// The text that entry i of class c's pool is.
-pub fn text_in(s: &[u8], t: &[u8], c: usize, i: usize) -> Span
+// The text that it is.
+pub fn text_in<'a>(s: &'a [u8], t: &[u8], c: usize, i: usize) -> &'a [u8]
     requires { (c < 16) × (16 * block_size ≤ length t.now) }
-    ensures { IsText s.now result (text (pool_of s.now (block_at t.now c)) i) }
+    ensures { result.now ≡ text (pool_of s.now (block_at t.now c)) i }
 {
-    let a = 6432 * c;
-    let e = a + 6432;
-    text(s, &t[a..e], i)
+    pool::text_of(s, blocks::tags(blocks::block(t, c)), i)
 }
 
 // Where the tag of that entry stands in the bundle.
@@ -64,10 +44,8 @@ pub fn field_code(s: &[u8], t: &[u8], n: usize, c: usize, j: usize) -> usize
     requires { (n ≤ 16) × (c < n) × (parents_end ≤ length t.now) × (j < row_count (block_at t.now c) false) × (j < 2 ^ 32) }
     ensures { (desc_of result ≡ (get_or (class (program_of (files_in s.now n t.now)) (first_class + c)).fields j no_field).type) × (result < 256) }
 {
-    let p = signature::member_descriptor(s, t, c, false, j);
-    let f = p.start;
-    let g = p.end;
-    types::field_type(s, &t[0..102912], n, &s[f..g])
+    let x = signature::member_descriptor(s, t, c, false, j);
+    types::field_type(s, &t[0..102912], n, x)
 }
 
 // How many fields class number c has itself.
@@ -91,14 +69,12 @@ pub fn layout_size(s: &[u8], t: &[u8], n: usize, from: usize) -> usize
 {
     let mut c = from;
     let mut total = 0;
-    let mut left = 11 + n;
-    while 0 < left {
+    for _i in 0..11 + n {
         if c == 0 {
             return total;
         }
         total += own_fields(s, t, n, c);
         c = lookup::above(s, t, n, c);
-        left -= 1;
     }
     total
 }

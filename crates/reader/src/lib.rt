@@ -2,6 +2,7 @@
 #![tactic(auto)]
 
 pub mod access;
+pub mod blocks;
 pub mod link;
 pub mod linking;
 pub mod lookup;
@@ -9,6 +10,7 @@ pub mod outlet;
 pub mod overriding;
 pub mod printing;
 pub mod prints;
+pub mod scan;
 pub mod signature;
 pub mod types;
 pub mod whole;

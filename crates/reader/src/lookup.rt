@@ -10,47 +10,33 @@ use crate::{prints, signature};
 use texts::names;
 
 // Where a member is: the class that has it, and its number there.
-#[derive(Clone, Copy)]
+#[derive(Clone, Copy, Debug, PartialEq, Eq)]
 pub struct Hit {
-    pub found: bool,
     pub class: usize,
     pub index: usize,
 }
 
 // A built-in class has one method, `<init>()V`, and no field.
-fn built_in_own(c: usize, method: bool, x: &[u8], y: &[u8]) -> Hit
+fn built_in_own(c: usize, method: bool, x: &[u8], y: &[u8]) -> Option<Hit>
     ensures { hit_of result ≡ built_in_spot method (signature x.now y.now) c }
 {
-    if method {
-        if !names::same_text(b"<init>", x) {
-            return Hit {
-                found: false,
-                class: 0,
-                index: 0,
-            };
-        }
-        if !names::same_text(b"()V", y) {
-            return Hit {
-                found: false,
-                class: 0,
-                index: 0,
-            };
-        }
-        return Hit {
-            found: true,
-            class: c,
-            index: 0,
-        };
+    if method && names::same_text(b"<init>", x) && names::same_text(b"()V", y) {
+        return Some(Hit { class: c, index: 0 });
     }
-    Hit {
-        found: false,
-        class: 0,
-        index: 0,
-    }
+    None
 }
 
 // The member of name x and descriptor y, whose print is p, that class c itself has.
-fn own_by(s: &[u8], t: &[u8], n: usize, c: usize, method: bool, x: &[u8], y: &[u8], p: u32) -> Hit
+fn own_by(
+    s: &[u8],
+    t: &[u8],
+    n: usize,
+    c: usize,
+    method: bool,
+    x: &[u8],
+    y: &[u8],
+    p: u32,
+) -> Option<Hit>
     requires { (n ≤ 16) × (16 * block_size ≤ length t.now) × Printed s.now n t.now × (p ≡ print_of (signature x.now y.now)) }
     ensures { hit_of result ≡ own_spot (program_of (files_in s.now n t.now)) (sigs_of method) (signature x.now y.now) c }
 {
@@ -59,22 +45,15 @@ fn own_by(s: &[u8], t: &[u8], n: usize, c: usize, method: bool, x: &[u8], y: &[u
     }
     if c < 11 + n {
         let i = signature::first_same(s, t, c - 11, method, x, y, p);
-        let k = signature::member_count(t, c - 11, method);
-        return Hit {
-            found: i < k,
-            class: c,
-            index: i,
-        };
+        if i < signature::member_count(t, c - 11, method) {
+            return Some(Hit { class: c, index: i });
+        }
     }
-    Hit {
-        found: false,
-        class: 0,
-        index: 0,
-    }
+    None
 }
 
 // The same, where its print is not at hand.
-pub fn own(s: &[u8], t: &[u8], n: usize, c: usize, method: bool, x: &[u8], y: &[u8]) -> Hit
+pub fn own(s: &[u8], t: &[u8], n: usize, c: usize, method: bool, x: &[u8], y: &[u8]) -> Option<Hit>
     requires { (n ≤ 16) × (16 * block_size ≤ length t.now) × Printed s.now n t.now }
     ensures { hit_of result ≡ own_spot (program_of (files_in s.now n t.now)) (sigs_of method) (signature x.now y.now) c }
 {
@@ -103,32 +82,33 @@ pub fn seek_by(
     x: &[u8],
     y: &[u8],
     p: u32,
-) -> Hit
+) -> Option<Hit>
     requires { (n ≤ 16) × (16 * block_size ≤ length t.now) × Parents s.now n t.now × Printed s.now n t.now × (p ≡ print_of (signature x.now y.now)) }
     ensures { hit_of result ≡ lookup (program_of (files_in s.now n t.now)) (sigs_of method) (signature x.now y.now) from }
 {
     let mut c = from;
-    let mut left = 11 + n;
-    while 0 < left {
-        let r = own_by(s, t, n, c, method, x, y, p);
-        if r.found {
-            return r;
+    for _i in 0..11 + n {
+        if let Some(h) = own_by(s, t, n, c, method, x, y, p) {
+            return Some(h);
         }
         if c == 0 {
-            return r;
+            return None;
         }
         c = above(s, t, n, c);
-        left -= 1;
     }
-    Hit {
-        found: false,
-        class: 0,
-        index: 0,
-    }
+    None
 }
 
 // The same, where its print is not at hand.
-pub fn seek(s: &[u8], t: &[u8], n: usize, from: usize, method: bool, x: &[u8], y: &[u8]) -> Hit
+pub fn seek(
+    s: &[u8],
+    t: &[u8],
+    n: usize,
+    from: usize,
+    method: bool,
+    x: &[u8],
+    y: &[u8],
+) -> Option<Hit>
     requires { (n ≤ 16) × (16 * block_size ≤ length t.now) × Parents s.now n t.now × Printed s.now n t.now }
     ensures { hit_of result ≡ lookup (program_of (files_in s.now n t.now)) (sigs_of method) (signature x.now y.now) from }
 {

@@ -1,16 +1,33 @@
 // The reader for other languages: no `requires`, and everything that is lent has a fixed end.
 ghost use Rattle.std.specs.Prelude.{◌≡◌, [], ◌∷◌, ◌%◌, ◌^◌, length};
-ghost use Rattle.reader.specs.Outlet.{IsOutcome, result_size, result_bytes, exported, read_export};
+ghost use Rattle.texts.specs.Faults.{number};
+ghost use Rattle.classfiles.specs.Limits.{unnamed};
+ghost use Rattle.reader.specs.Outlet.{answer, IsOutcome, result_size, result_bytes, exported, read_export};
 
+use crate::link::Refused;
 use crate::whole;
 
-// A verdict's four numbers; class and method 65535 where none is named.
+// A verdict's four numbers, as C gets them; class and method 65535 where none is named.
 #[derive(Clone, Copy)]
 pub struct Answer {
     pub number: usize,
     pub class: usize,
     pub method: usize,
     pub place: usize,
+}
+
+// Phase B names no method.
+impl From<Refused> for Answer {
+    ghost from_gives = { λ e a. a ≡ answer (number e.refusal) e.class unnamed e.place };
+
+    fn from(e: Refused) -> Answer {
+        Answer {
+            number: e.refusal.number() as usize,
+            class: e.class,
+            method: 65535,
+            place: e.place,
+        }
+    }
 }
 
 // Phases A and B; the scratch ends all zero, unless it is too short (20).
@@ -27,19 +44,14 @@ pub fn judge(s: &[u8], t: &mut [u8]) -> Answer
     }
     let r = whole::read(s, t);
     kit::clear(t);
-    if r.ok {
-        return Answer {
+    match r {
+        Ok(_) => Answer {
             number: 0,
             class: 65535,
             method: 65535,
             place: 0,
-        };
-    }
-    Answer {
-        number: r.number,
-        class: r.class,
-        method: 65535,
-        place: r.place,
+        },
+        Err(e) => Answer::from(e),
     }
 }
 

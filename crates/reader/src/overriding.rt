@@ -1,6 +1,5 @@
 // A method and the one that it overrides, if there is one. The classes are those of the n blocks in t.
 ghost use Rattle.std.specs.Prelude.{◌≡◌, true, ◌+◌, ◌*◌, ◌^◌, ◌<◌, ◌≤◌, length};
-ghost use Rattle.std.specs.Bool.{beq};
 ghost use Rattle.reader.specs.BuiltIns.{first_class};
 ghost use Rattle.reader.specs.Program.{class, method, program_of, method_sigs, lookup};
 ghost use Rattle.reader.specs.Link.{agrees};
@@ -33,28 +32,15 @@ pub fn is_static(s: &[u8], t: &[u8], n: usize, c: usize, m: usize) -> bool
 }
 
 // The method of the same name and descriptor that is nearest above method j of class c.
-fn found_above(s: &[u8], t: &[u8], n: usize, c: usize, j: usize) -> Hit
+fn found_above(s: &[u8], t: &[u8], n: usize, c: usize, j: usize) -> Option<Hit>
     requires { (n ≤ 16) × (c < n) × (16 * block_size ≤ length t.now) × (j < row_count (block_at t.now c) true) × (j < 2 ^ 32) × Parents s.now n t.now × Printed s.now n t.now }
     ensures { hit_of result ≡ lookup (program_of (files_in s.now n t.now)) method_sigs (method (program_of (files_in s.now n t.now)) (first_class + c) j).sig (class (program_of (files_in s.now n t.now)) (first_class + c)).parent }
 {
-    let p = signature::member_name(s, t, c, true, j);
-    let f = p.start;
-    let g = p.end;
-    let d = signature::member_descriptor(s, t, c, true, j);
-    let h = d.start;
-    let k = d.end;
+    let x = signature::member_name(s, t, c, true, j);
+    let y = signature::member_descriptor(s, t, c, true, j);
     let q = prints::print_at(t, c, true, j);
     let up = lookup::above(s, t, n, 11 + c);
-    lookup::seek_by(s, t, n, up, true, &s[f..g], &s[h..k], q)
-}
-
-fn same_truth(a: bool, b: bool) -> bool
-    ensures { result ≡ beq a b }
-{
-    if a {
-        return b;
-    }
-    !b
+    lookup::seek_by(s, t, n, up, true, x, y, q)
 }
 
 // Whether method j of class c is static exactly if the one above is.
@@ -62,12 +48,8 @@ pub fn agrees(s: &[u8], t: &[u8], n: usize, c: usize, j: usize) -> bool
     requires { (n ≤ 16) × (c < n) × (16 * block_size ≤ length t.now) × (j < row_count (block_at t.now c) true) × (j < 2 ^ 32) × Parents s.now n t.now × Printed s.now n t.now }
     ensures { result ≡ agrees (program_of (files_in s.now n t.now)) (method (program_of (files_in s.now n t.now)) (first_class + c) j).static (lookup (program_of (files_in s.now n t.now)) method_sigs (method (program_of (files_in s.now n t.now)) (first_class + c) j).sig (class (program_of (files_in s.now n t.now)) (first_class + c)).parent) }
 {
-    let h = found_above(s, t, n, c, j);
-    if !h.found {
-        return true;
+    match found_above(s, t, n, c, j) {
+        Some(h) => is_static(s, t, n, 11 + c, j) == is_static(s, t, n, h.class, h.index),
+        None => true,
     }
-    same_truth(
-        is_static(s, t, n, 11 + c, j),
-        is_static(s, t, n, h.class, h.index),
-    )
 }

@@ -10,13 +10,9 @@ fn member_print(s: &[u8], t: &[u8], c: usize, method: bool, j: usize) -> u32
     requires { (c < 16) × (16 * block_size ≤ length t.now) × (j < 2 ^ 32) }
     ensures { result ≡ print_of (row_sig s.now (block_at t.now c) method j) }
 {
-    let p = signature::member_name(s, t, c, method, j);
-    let f = p.start;
-    let g = p.end;
-    let d = signature::member_descriptor(s, t, c, method, j);
-    let h = d.start;
-    let k = d.end;
-    prints::print(&s[f..g], &s[h..k])
+    let x = signature::member_name(s, t, c, method, j);
+    let y = signature::member_descriptor(s, t, c, method, j);
+    prints::print(x, y)
 }
 
 // The fields or the methods of class c.
@@ -26,11 +22,9 @@ fn print_rows(s: &[u8], t: &mut [u8], c: usize, method: bool)
 {
     let n = signature::member_count(t, c, method);
     let w = prints::first_word(c, method);
-    let mut j = 0;
-    while j < n {
+    for j in 0..n {
         let p = member_print(s, t, c, method, j);
         kit::put_word(t, w + j, p);
-        j += 1;
     }
 }
 
@@ -39,10 +33,8 @@ pub fn print_all(s: &[u8], t: &mut [u8], n: usize)
     requires { (n ≤ 16) × (prints_end ≤ length t.old) × FewRows n t.old }
     ensures { AllPrinted s.now n t.old t.new }
 {
-    let mut c = 0;
-    while c < n {
+    for c in 0..n {
         print_rows(s, t, c, false);
         print_rows(s, t, c, true);
-        c += 1;
     }
 }

@@ -1,8 +1,8 @@
 // A member's print: a word made of its name and descriptor, so that a search compares words before texts.
-ghost use Rattle.std.specs.Prelude.{◌≡◌, true, cond, ◌+◌, ◌/◌, ◌^◌, ◌<◌, eqb, length};
+ghost use Rattle.std.specs.Prelude.{◌≡◌, true, cond, ◌+◌, ◌/◌, ◌*◌, ◌^◌, ◌<◌, ◌≤◌, eqb, length, take, drop};
 ghost use Rattle.kit.specs.Words.{word};
 ghost use Rattle.reader.specs.Program.{signature};
-ghost use Rattle.reader.specs.Prints.{print_from, print_of, has_word, prints_word};
+ghost use Rattle.reader.specs.Prints.{print_from, print_of, has_word, prints_word, prints_end};
 
 // Text x on top of h, four bytes at a time.
 fn text_print(h: usize, x: &[u8]) -> usize
@@ -11,10 +11,8 @@ fn text_print(h: usize, x: &[u8]) -> usize
 {
     let n = x.len() / 4;
     let mut v = h;
-    let mut i = 0;
-    while i < n {
+    for i in 0..n {
         v = (16777619 * v + kit::word(x, i) as usize) % 4294967296;
-        i += 1;
     }
     let a = 4 * n;
     (16777619 * v + kit::byte(x, a) + 256 * kit::byte(x, a + 1) + 65536 * kit::byte(x, a + 2))
@@ -29,25 +27,13 @@ pub fn print(x: &[u8], y: &[u8]) -> u32
     text_print(h, x) as u32
 }
 
-fn or_same(hit: bool, a: u32, p: u32) -> bool
-    ensures { result ≡ cond (eqb a p) true hit }
-{
-    if a == p {
-        return true;
-    }
-    hit
-}
-
 // Whether p is among the words of w. It does not stop at the first, so that several words are compared at once.
 pub fn has(w: &[u8], p: u32) -> bool
     ensures { result ≡ has_word w.now p (length w.now / 4) }
 {
-    let n = w.len() / 4;
-    let mut i = 0;
     let mut hit = false;
-    while i < n {
-        hit = or_same(hit, kit::word(w, i), p);
-        i += 1;
+    for i in 0..w.len() / 4 {
+        hit |= kit::word(w, i) == p;
     }
     hit
 }
@@ -61,6 +47,15 @@ pub fn first_word(c: usize, method: bool) -> usize
         return 46816 + 128 * c;
     }
     46752 + 128 * c
+}
+
+// The prints of class c's first n methods or fields.
+pub fn first_prints(t: &[u8], c: usize, method: bool, n: usize) -> &[u8]
+    requires { (c < 16) × (n ≤ 64) × (prints_end ≤ length t.now) }
+    ensures { result.now ≡ take (4 * n) (drop (4 * prints_word c method) t.now) }
+{
+    let f = 4 * first_word(c, method);
+    &t[f..f + 4 * n]
 }
 
 // The print that stands for member j of class c.

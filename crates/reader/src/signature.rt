@@ -4,24 +4,20 @@ ghost use Rattle.kit.specs.Scan.{first_not};
 ghost use Rattle.kit.specs.Words.{word};
 ghost use Rattle.texts.specs.Reading.{u2_at};
 ghost use Rattle.classfiles.specs.Pool.{text};
-ghost use Rattle.classfiles.specs.Table.{IsText};
 ghost use Rattle.reader.specs.Program.{signature, index_of};
 ghost use Rattle.classfiles.specs.Blocks.{block_size, pool_of};
 ghost use Rattle.reader.specs.MemberRows.{block_at, rows_word, row_start, row_count, row_sig, row_sigs, other_sig, first_at};
 ghost use Rattle.reader.specs.Prints.{print_of, prints_word, PrintedAt, RowPrints};
 
-use crate::{link, prints};
+use crate::{blocks, prints, scan};
 use classfiles::pool;
-use classfiles::pool::Span;
 use texts::{items, names};
 
 // The text that the number at p names.
-pub fn text_at(s: &[u8], b: &[u8], p: usize) -> Span
-    requires { length b.now ≡ block_size }
-    ensures { IsText s.now result (text (pool_of s.now b.now) (u2_at s.now p)) }
+pub fn text_at<'a>(s: &'a [u8], b: &[u8], p: usize) -> &'a [u8]
+    ensures { result.now ≡ text (pool_of s.now b.now) (u2_at s.now p) }
 {
-    let e = link::tags_end(b);
-    pool::text_of(s, &b[0..e], items::u2_at(s, p))
+    pool::text_of(s, blocks::tags(b), items::u2_at(s, p))
 }
 
 // Where the rows of methods or of fields start.
@@ -55,20 +51,14 @@ pub fn row_start(b: &[u8], method: bool, j: usize) -> usize
 
 // Whether the member of row j has another name than x or another descriptor than y.
 fn other_row(s: &[u8], b: &[u8], method: bool, j: usize, x: &[u8], y: &[u8]) -> bool
-    requires { (length b.now ≡ block_size) × (j < 2 ^ 32) }
+    requires { j < 2 ^ 32 }
     ensures { result ≡ other_sig s.now b.now method (signature x.now y.now) j }
 {
     let q = row_start(b, method, j);
-    let p = text_at(s, b, q + 2);
-    let f = p.start;
-    let g = p.end;
-    if !names::same_text(&s[f..g], x) {
+    if !names::same_text(text_at(s, b, q + 2), x) {
         return true;
     }
-    let d = text_at(s, b, q + 4);
-    let h = d.start;
-    let k = d.end;
-    !names::same_text(&s[h..k], y)
+    !names::same_text(text_at(s, b, q + 4), y)
 }
 
 // The same, of a row whose print stands in w, where p is the print of x and y.
@@ -82,7 +72,7 @@ fn other_print(
     y: &[u8],
     p: u32,
 ) -> bool
-    requires { (length b.now ≡ block_size) × (j < 2 ^ 32) × (word w.now j ≡ print_of (row_sig s.now b.now method j)) × (p ≡ print_of (signature x.now y.now)) }
+    requires { (j < 2 ^ 32) × (word w.now j ≡ print_of (row_sig s.now b.now method j)) × (p ≡ print_of (signature x.now y.now)) }
     ensures { result ≡ other_sig s.now b.now method (signature x.now y.now) j }
 {
     if kit::word(w, j) == p {
@@ -102,17 +92,10 @@ fn first_row(
     y: &[u8],
     p: u32,
 ) -> usize
-    requires { (length b.now ≡ block_size) × (n < 2 ^ 32) × RowPrints s.now b.now method n w.now × (p ≡ print_of (signature x.now y.now)) }
+    requires { (n < 2 ^ 32) × RowPrints s.now b.now method n w.now × (p ≡ print_of (signature x.now y.now)) }
     ensures { result ≡ first_not (other_sig s.now b.now method (signature x.now y.now)) n 0 }
 {
-    let mut i = 0;
-    while i < n {
-        if !other_print(s, b, w, method, i, x, y, p) {
-            return i;
-        }
-        i += 1;
-    }
-    i
+    scan::first_not(n, |i| other_print(s, b, w, method, i, x, y, p))
 }
 
 // The same in block c: nothing is read there where no print is p.
@@ -129,13 +112,9 @@ fn first_of(
     requires { (c < 16) × PrintedAt s.now t.now c method × (n ≤ row_count (block_at t.now c) method) × (p ≡ print_of (signature x.now y.now)) }
     ensures { result ≡ first_not (other_sig s.now (block_at t.now c) method (signature x.now y.now)) n 0 }
 {
-    let w = prints::first_word(c, method);
-    let f = 4 * w;
-    let g = f + 4 * n;
-    if prints::has(&t[f..g], p) {
-        let a = 6432 * c;
-        let e = a + 6432;
-        return first_row(s, &t[a..e], &t[f..g], n, method, x, y, p);
+    let w = prints::first_prints(t, c, method, n);
+    if prints::has(w, p) {
+        return first_row(s, blocks::block(t, c), w, n, method, x, y, p);
     }
     n
 }
@@ -145,9 +124,7 @@ pub fn member_count(t: &[u8], c: usize, method: bool) -> usize
     requires { (c < 16) × (16 * block_size ≤ length t.now) }
     ensures { (result ≡ row_count (block_at t.now c) method) × (result < 2 ^ 32) }
 {
-    let a = 6432 * c;
-    let e = a + 6432;
-    row_count(&t[a..e], method)
+    row_count(blocks::block(t, c), method)
 }
 
 // The first member of block c of name x and descriptor y, whose print is p, or as many as there are.
@@ -164,29 +141,23 @@ pub fn member_start(t: &[u8], c: usize, method: bool, j: usize) -> usize
     requires { (c < 16) × (16 * block_size ≤ length t.now) × (j < 2 ^ 32) }
     ensures { (result ≡ row_start (block_at t.now c) method j) × (result < 2 ^ 32) }
 {
-    let a = 6432 * c;
-    let e = a + 6432;
-    row_start(&t[a..e], method, j)
+    row_start(blocks::block(t, c), method, j)
 }
 
-pub fn member_name(s: &[u8], t: &[u8], c: usize, method: bool, j: usize) -> Span
+pub fn member_name<'a>(s: &'a [u8], t: &[u8], c: usize, method: bool, j: usize) -> &'a [u8]
     requires { (c < 16) × (16 * block_size ≤ length t.now) × (j < 2 ^ 32) }
-    ensures { IsText s.now result (row_sig s.now (block_at t.now c) method j).name }
+    ensures { result.now ≡ (row_sig s.now (block_at t.now c) method j).name }
 {
-    let a = 6432 * c;
-    let e = a + 6432;
-    let q = row_start(&t[a..e], method, j);
-    text_at(s, &t[a..e], q + 2)
+    let b = blocks::block(t, c);
+    text_at(s, b, row_start(b, method, j) + 2)
 }
 
-pub fn member_descriptor(s: &[u8], t: &[u8], c: usize, method: bool, j: usize) -> Span
+pub fn member_descriptor<'a>(s: &'a [u8], t: &[u8], c: usize, method: bool, j: usize) -> &'a [u8]
     requires { (c < 16) × (16 * block_size ≤ length t.now) × (j < 2 ^ 32) }
-    ensures { IsText s.now result (row_sig s.now (block_at t.now c) method j).descriptor }
+    ensures { result.now ≡ (row_sig s.now (block_at t.now c) method j).descriptor }
 {
-    let a = 6432 * c;
-    let e = a + 6432;
-    let q = row_start(&t[a..e], method, j);
-    text_at(s, &t[a..e], q + 4)
+    let b = blocks::block(t, c);
+    text_at(s, b, row_start(b, method, j) + 4)
 }
 
 // Whether no earlier member of block c has member j's name and descriptor, by texts where a print is the same.
@@ -194,24 +165,17 @@ fn is_first_text(s: &[u8], t: &[u8], c: usize, method: bool, j: usize, p: u32) -
     requires { (c < 16) × PrintedAt s.now t.now c method × (j < row_count (block_at t.now c) method) × (p ≡ word t.now (prints_word c method + j)) }
     ensures { result ≡ first_at s.now (block_at t.now c) method j }
 {
-    let u = member_name(s, t, c, method, j);
-    let f = u.start;
-    let g = u.end;
-    let d = member_descriptor(s, t, c, method, j);
-    let h = d.start;
-    let k = d.end;
-    first_of(s, t, c, method, j, &s[f..g], &s[h..k], p) == j
+    let x = member_name(s, t, c, method, j);
+    let y = member_descriptor(s, t, c, method, j);
+    first_of(s, t, c, method, j, x, y, p) == j
 }
 
 pub fn is_first(s: &[u8], t: &[u8], c: usize, method: bool, j: usize) -> bool
     requires { (c < 16) × PrintedAt s.now t.now c method × (j < row_count (block_at t.now c) method) }
     ensures { result ≡ first_at s.now (block_at t.now c) method j }
 {
-    let w = prints::first_word(c, method);
-    let p = kit::word(t, w + j);
-    let f = 4 * w;
-    let g = f + 4 * j;
-    if prints::has(&t[f..g], p) {
+    let p = prints::print_at(t, c, method, j);
+    if prints::has(prints::first_prints(t, c, method, j), p) {
         return is_first_text(s, t, c, method, j, p);
     }
     true

@@ -2,13 +2,11 @@
 // parted by tabs.
 #![tactic(auto)]
 
-ghost use Rattle.std.specs.Prelude.{◌≤◌, length, IfOk, IfSome};
-
+use inputs::{argument, complain, open, read_full};
 use reader::outlet::Answer;
-use std::env::FillError;
+use std::io;
 use std::io::Read;
-use std::rt::{Env, Files};
-use std::{fs, io};
+use std::rt::Files;
 use verifier::verify;
 
 fn print_answer(out: &impl Print, a: Answer) -> io::Result<()> {
@@ -20,21 +18,6 @@ fn print_answer(out: &impl Print, a: Answer) -> io::Result<()> {
     } = a;
     println!(out; "verdict\tclass\tmethod\tplace")?;
     println!(out; "{number}\t{class}\t{method}\t{place}")
-}
-
-// Reads until the buffer is full or the input ends.
-fn read_full(input: &mut impl Read, buf: &mut [u8]) -> io::Result<usize>
-    ensures { IfOk result (λ n. n ≤ length buf.new) }
-{
-    let mut done = 0;
-    while done < buf.len() {
-        let n = input.read(&mut buf[done..])?;
-        if n == 0 {
-            break;
-        }
-        done += n;
-    }
-    Ok(done)
 }
 
 // Whether a byte follows those that were read.
@@ -58,14 +41,6 @@ fn judge(input: &mut impl Read, bundle: &mut [u8], scratch: &mut [u8]) -> io::Re
     Ok(verify::verify(&bundle[..n], scratch))
 }
 
-// A name that is not UTF-8 opens no file, since paths are text.
-fn open<R: Files>(files: &R, path: &[u8]) -> io::Result<R::File> {
-    match str::from_utf8(path) {
-        Ok(name) => fs::open(files, name),
-        Err(_) => Err(io::Error::from(io::ErrorKind::InvalidFilename)),
-    }
-}
-
 fn judge_named(
     files: &impl Files,
     path: &[u8],
@@ -74,23 +49,6 @@ fn judge_named(
 ) -> io::Result<Answer> {
     let mut file = open(files, path)?;
     judge(&mut file, bundle, scratch)
-}
-
-// A line of what failed: the file's name, a colon and the error.
-fn complain(errors: &impl Print, path: &[u8], e: io::Error) -> io::Result<()> {
-    errors.write_all(path)?;
-    println!(errors; ": {e}")
-}
-
-// How long the argument is. One that is too long for a path counts as an empty name, which opens no file.
-fn argument(env: &impl Env, i: usize, path: &mut [u8]) -> Option<usize>
-    ensures { IfSome result (λ n. n ≤ length path.new) }
-{
-    match env.arg(i, path) {
-        Ok(n) => Some(n),
-        Err(FillError::TooLong) => Some(0),
-        Err(FillError::NotPresent) => None,
-    }
 }
 
 fn main(rt: HostRuntime) -> io::Result<()> {

@@ -1,12 +1,8 @@
 -- Parents of classes in a table of words, as a program of which nothing else is known; and that a program with those parents
 -- has the same subclasses, so the same types fit. Every type fits itself. Assumes nothing.
-use Prim.Native.Nat.{ℕ, zero, suc, ◌+◌, ◌-◌, ◌/◌, ◌<◌, ◌≤◌}
 use Rattle.std.specs.Prelude.{◌≡◌, true, cond, ◌⊎◌, eqb, length, get_or}
-use Rattle.std.proofs.Math.Path.{refl, sym, ap}
-use Rattle.std.proofs.Common.{◌∙◌, inl, inr, arith, not-suc-le-zero, sub-one}
-use mathlib.Core.List.{List, [], ◌∷◌}
+use Rattle.std.proofs.Common.{◌∙◌, inl, inr, arith, not-suc-le-zero, sub-one, ℕ, zero, suc, ◌+◌, ◌-◌, ◌/◌, ◌<◌, ◌≤◌, List, [], ◌∷◌, eq-eqb, ne_eqb, refl, sym, ap}
 use Rattle.std.proofs.Math.ListN.{get_or-eq_default}
-use borrow.Author.Tests.{eq-eqb, ne_eqb}
 use Rattle.kit.specs.Pick.{side}
 use Rattle.kit.specs.Words.{word, word_out}
 use Rattle.classfiles.specs.Descriptors.{Ref, cls, arr, Desc, dint, dref}

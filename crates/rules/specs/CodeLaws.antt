@@ -1,12 +1,7 @@
 -- Laws of type codes: the words that are made of them. Assumes nothing.
-use Prim.Native.Nat.{ℕ, zero, suc, ◌+◌, ◌-◌, ◌*◌, ◌/◌, ◌%◌, ◌<◌}
-use Rattle.std.proofs.Math.Path.{◌≡◌, refl, sym, ap}
-use Rattle.std.proofs.Common.{◌∙◌}
+use Rattle.std.proofs.Common.{◌∙◌, ℕ, zero, suc, ◌+◌, ◌-◌, ◌*◌, ◌/◌, ◌%◌, ◌<◌, arith, eq-eqb, ne_eqb, eqb-true, ◌≡◌, refl, sym, ap, true, false, eqb}
 use Rattle.std.specs.Prelude.{Bool, cond}
-use Rattle.std.proofs.Math.Bool.{true, false}
-use native.Mathlib.Omega.{arith}
-use Rattle.std.proofs.Math.Dec.{eqb}
-use borrow.Author.Tests.{eq-eqb, ne_eqb, eqb-true, eqb-false}
+use Rattle.std.proofs.lemmas.Bool.{eqb-false}
 use Rattle.classfiles.specs.Descriptors.{Ref, cls, arr, Desc, dint, dref}
 use Rattle.reader.specs.TypeCodes as code
 use Rattle.reader.specs.TypeCodes.{nested, ref_in, ref_of as ref_by, desc_of as code_desc}

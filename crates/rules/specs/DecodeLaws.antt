@@ -1,13 +1,7 @@
 -- Laws of decoding: opcodes that are not listed, and the instruction of a method at a site. Assumes nothing.
-use Prim.Native.Nat.{ℕ, zero, suc, ◌+◌, ◌-◌, ◌*◌, ◌/◌, ◌%◌, ◌<◌, ◌≤◌}
 use Rattle.std.specs.Prelude.{◌≡◌, Bool, cond, ◌&&◌, get_or}
-use Rattle.std.proofs.Math.Path.{refl, sym, ap}
-use Rattle.std.proofs.Common.{subst, ◌∙◌}
-use Rattle.std.proofs.Math.Bool.{true, false}
-use mathlib.Core.List.{List, [], ◌∷◌}
-use native.Mathlib.Omega.{arith}
-use Rattle.std.proofs.Math.Dec.{eqb, ltb}
-use borrow.Author.Tests.{eq-eqb, ne_eqb, eqb-true, eqb-false, lt-ltb, le-ltb}
+use Rattle.std.proofs.Common.{subst, ◌∙◌, ℕ, zero, suc, ◌+◌, ◌-◌, ◌*◌, ◌/◌, ◌%◌, ◌<◌, ◌≤◌, List, [], ◌∷◌, arith, eq-eqb, ne_eqb, eqb-true, lt-ltb, le-ltb, refl, sym, ap, true, false, eqb, ltb}
+use Rattle.std.proofs.lemmas.Bool.{eqb-false}
 use Rattle.kit.specs.Bools.{both_left, both_right, not_so}
 use Rattle.kit.specs.Scan.{first_not, first_before}
 use Rattle.classfiles.specs.Descriptors.{Ref, cls, Desc, dint, dref, dimensions, depth_of}

@@ -1,7 +1,6 @@
 -- What a form takes and leaves, where its rule depends on nothing else; and the rules of each group as the code follows them.
-use Rattle.std.specs.Prelude.{ℕ, ◌+◌, ◌/◌, ◌%◌, ◌≤◌, ◌≡◌, List, [], ◌∷◌, ◌++◌, leb, length, drop}
-use Rattle.std.proofs.Math.Path.{refl}
-use Rattle.std.proofs.Common.{sym, ◌∙◌, eq-eqb, ne_eqb}
+use Rattle.std.specs.Prelude.{ℕ, ◌+◌, ◌/◌, ◌%◌, ◌≤◌, ◌≡◌, Option, Some, None, List, [], ◌∷◌, ◌++◌, leb, length, drop}
+use Rattle.std.proofs.Common.{sym, ◌∙◌, eq-eqb, ne_eqb, refl}
 use Rattle.kit.specs.Claims.{Claim, claim}
 use Rattle.kit.specs.Pick.{same}
 use Rattle.classfiles.specs.Descriptors.{cls, arr}
@@ -20,8 +19,7 @@ use Rattle.rules.specs.declared.instruction.Branch.{Branch}
 use Rattle.rules.specs.declared.instruction.Branch.TheVariants.{Goto, Ifint, Ificmp, Ifacmp, Ifnull}
 use Rattle.rules.specs.declared.forms.Takes.{Takes}
 use Rattle.rules.specs.declared.forms.Takes.TheVariants.{Zero, One, Two, Three}
-use Rattle.rules.specs.declared.forms.Gives.{Gives}
-use Rattle.rules.specs.declared.forms.Gives.TheVariants.{Nothing, Value}
+use Rattle.rules.specs.declared.types.Ty as code
 
 abbrev pub takes_of : Takes → List Ty
 takes_of Zero = []
@@ -29,9 +27,9 @@ takes_of (One a) = type_of a.word ∷ []
 takes_of (Two a b) = type_of a.word ∷ type_of b.word ∷ []
 takes_of (Three a b c) = type_of a.word ∷ type_of b.word ∷ type_of c.word ∷ []
 
-abbrev pub gives_of : Gives → List Ty
-gives_of Nothing = []
-gives_of (Value a) = type_of a.word ∷ []
+abbrev pub gives_of : Option code.Ty → List Ty
+gives_of None = []
+gives_of (Some a) = type_of a.word ∷ []
 
 -- a form's operands: count, then fit from the top down
 unfoldable pub asked : Program → List Ty → List Ty → List (Claim ℕ)

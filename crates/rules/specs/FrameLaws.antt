@@ -1,24 +1,17 @@
 -- Laws of frames in words: the look-up's turns, and a state that goes to what was found. Assumes nothing.
-use Prim.Native.Nat.{ℕ, zero, suc, ◌+◌, ◌-◌, ◌*◌, ◌/◌, ◌%◌, ◌<◌, ◌≤◌}
-use Rattle.std.specs.Prelude.{◌≡◌, refl, Bool, true, cond, List, [], ◌⊎◌, length}
-use Rattle.std.proofs.Common.{sym, ◌∙◌, inl, inr, not-suc-le-zero}
-use Rattle.std.proofs.Math.Path.{ap}
-use Rattle.std.proofs.Math.Bool.{false}
+use Rattle.std.specs.Prelude.{◌≡◌, refl, List, [], ◌⊎◌, length}
+use Rattle.std.proofs.Common.{sym, ◌∙◌, inl, inr, not-suc-le-zero, ℕ, zero, suc, ◌+◌, ◌-◌, ◌*◌, ◌/◌, ◌%◌, ◌<◌, ◌≤◌, arith, eq-eqb, ne_eqb, ap, false, eqb}
 use Rattle.std.proofs.Math.Option.{Option, none, some}
-use native.Mathlib.Omega.{arith}
-use Rattle.std.proofs.Math.Dec.{eqb}
-use borrow.Author.Tests.{eq-eqb, ne_eqb}
 use Rattle.kit.specs.Pick.{side}
 use Rattle.kit.specs.Words.{word}
-use Rattle.kit.specs.Claims.{is, verdict, fails}
+use Rattle.kit.specs.Claims.{Ruling, fail, verdict, claim_fails}
 use Rattle.reader.specs.Program.{Program}
 use Rattle.rules.specs.States.{State, state_fits}
 use Rattle.rules.specs.Walk.{frame_at, into_frame}
 use Rattle.rules.specs.Slots.{held}
-use Rattle.rules.specs.FrameRows.{row_held, frames_at, frames_of, Laid, Among, standing, Sound}
+use Rattle.rules.specs.FrameRows.{row_held, frames_at, frames_of, Laid, Among, Sound}
 use Rattle.rules.specs.declared.slots.Held.{Held}
 use Rattle.rules.specs.declared.frames.Rows.{Rows}
-use Rattle.rules.specs.declared.frames.Standing.{Standing}
 
 -- a row as it is read: d and w are its words
 module _ (t : List ℕ) (n x d w : ℕ) where
@@ -119,21 +112,9 @@ pub among-row : (t : List ℕ) (f : Rows) (h : Held) (x : ℕ) → h ≡ row_hel
 among-row t f h x e l = rw e (record { end = l; locals = refl })
 
 -- into what was found
-module _ (P : Program) (t : List ℕ) (S : State) (s : Standing) (F : Option State) where
-  pub into_none : s.there ≡ false → standing t s ≡ F → is 17 ≡ verdict (into_frame P S F)
-  into_none e h =
-      let z : F ≡ none = sym h ∙ missing s.there e in
-      rw z (fails 17 [] false refl refl)
-    where
-      missing : (b : Bool) → b ≡ false → cond b (some (held t s.held)) none ≡ none
-      missing b e = rw e
+module _ (P : Program) (S : State) (F : Option State) where
+  pub into_none : none ≡ F → fail 17 ≡ verdict (into_frame P S F)
+  into_none e = rw (← e) (claim_fails 17 [] false refl)
 
-  pub into_some : (r : ℕ) → s.there ≡ true → standing t s ≡ F → is r ≡ verdict (state_fits P S (held t s.held)) → is r ≡ verdict (into_frame P S F)
-  into_some r e h q =
-      let z : F ≡ some (held t s.held) = sym h ∙ there s.there e in
-      rw z q
-    where
-      there : (b : Bool) → b ≡ true → cond b (some (held t s.held)) none ≡ some (held t s.held)
-      there b e = rw e
-
-pub ruleset intos = (into_none, into_some)
+  pub into_some : (G : State) (R : Ruling ℕ) → some G ≡ F → R ≡ verdict (state_fits P S G) → R ≡ verdict (into_frame P S F)
+  into_some G R e q = rw (← e) q

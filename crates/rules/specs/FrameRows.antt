@@ -1,5 +1,5 @@
 -- Frames in a table of words: a row of 68 words each, a state's 64 slots first, then offset, depth and flag.
-use Rattle.std.specs.Prelude.{ℕ, zero, suc, ◌+◌, ◌*◌, ◌/◌, ◌%◌, ◌<◌, ◌≤◌, ◌≡◌, cond, List, [], ◌∷◌, eqb, length}
+use Rattle.std.specs.Prelude.{ℕ, zero, suc, ◌+◌, ◌*◌, ◌/◌, ◌%◌, ◌<◌, ◌≤◌, ◌≡◌, Option as Found, Some, None, List, [], ◌∷◌, eqb, length}
 use Rattle.std.proofs.Math.Option.{Option, none, some}
 use Rattle.kit.specs.Words.{word}
 use Rattle.rules.specs.States.{State}
@@ -7,7 +7,6 @@ use Rattle.rules.specs.Frames.{Frame, frame}
 use Rattle.rules.specs.Slots.{held, Placed}
 use Rattle.rules.specs.declared.slots.Held.{Held}
 use Rattle.rules.specs.declared.frames.Rows.{Rows}
-use Rattle.rules.specs.declared.frames.Standing.{Standing}
 
 -- the state in the row at x, of n locals; no word is read as a depth past 32
 abbrev pub row_held : List ℕ → ℕ → ℕ → Held
@@ -32,8 +31,9 @@ pub record Laid (t : List ℕ) (f : Rows) : Type 0 where
   pub rising : (i j : ℕ) → i < j → j < f.count → offset_at t f i < offset_at t f j
 
 -- what was looked up
-abbrev pub standing : List ℕ → Standing → Option State
-standing t s = cond s.there (some (held t s.held)) none
+abbrev pub standing : List ℕ → Found Held → Option State
+standing t None = none
+standing t (Some h) = some (held t h)
 
 pub record Sound (t : List ℕ) (h : Held) : Type 0 where
   pub placed : Placed t h

@@ -1,16 +1,16 @@
 -- The rules by which `search` finds the claims of a group's forms and the states that they leave. Assumes nothing.
 use Rattle.rules.specs.Rule.{key_of, returns_int, returns_ref, returns_void, returned}
-use Rattle.std.specs.Prelude.{ℕ, suc, ◌+◌, ◌-◌, ◌%◌, ◌≡◌, refl, Bool, true, false, cond, not, List, [], ◌∷◌, ◌++◌, eqb, leb, length, drop, set}
+use Rattle.std.specs.Prelude.{ℕ, suc, ◌+◌, ◌-◌, ◌%◌, ◌≡◌, refl, Option, Some, None, Bool, true, false, cond, not, List, [], ◌∷◌, ◌++◌, eqb, leb, length, drop, set}
 use Rattle.std.proofs.Common.{sym, ap, ◌∙◌, arith}
 use Rattle.kit.specs.Pick.{same}
-use Rattle.kit.specs.Claims.{Claim, claim, Ruling, is, verdict, then, verdict-append, nothing, one}
+use Rattle.kit.specs.Claims.{Claim, claim, Ruling, verdict, then, verdict-append, none_claimed}
 use Rattle.classfiles.specs.Descriptors.{Desc, dint, dref}
 use Rattle.reader.specs.Program.{Program}
 use Rattle.rules.specs.Types.{Ty, top, at, uninit, ty_of, is_int, is_reference, is_array, element_ty}
 use Rattle.rules.specs.States.{State, state, stack, no_copy}
 use Rattle.rules.specs.Walk.{operands_fit}
 use Rattle.rules.specs.Slots.{stack_at, held, Moved, Outside, dropped, stored, locals_swapped, pushed}
-use Rattle.rules.specs.SlotLaws.{length-stack, drop-stack, cut-held, outside_two}
+use Rattle.rules.specs.SlotLaws.{length-stack, drop-stack, cut-held, outside_two, claim_via}
 use Rattle.rules.specs.Forms.{asked, turned, Kept, form_claims, one_type, two_types, three_types, base_int, base_object}
 use Rattle.rules.specs.Groups.{local_rule, local_claims, local_after, stack_rule, stack_claims, stack_after, results_of, leave_rule, leave_claims, new_rule, new_claims, new_after}
 use Rattle.rules.specs.InstructionWords.{ref_of, desc_of}
@@ -18,51 +18,49 @@ use Rattle.rules.specs.declared.slots.Held.{Held}
 use Rattle.rules.specs.declared.instruction.Local.{Local}
 use Rattle.rules.specs.declared.instruction.Stack.{Stack}
 use Rattle.rules.specs.declared.instruction.Leave.{Leave}
-use Rattle.rules.specs.declared.forms.Gives.{Gives}
-use Rattle.rules.specs.declared.forms.Gives.TheVariants.{Nothing, Value}
 use Rattle.rules.specs.declared.types.Ty as code
 
 -- what is asked in all: operands, the form's own, room for a stack of n
 unfoldable pub claims_of : Program → ℕ → List Ty → List Ty → List (Claim ℕ) → ℕ → List (Claim ℕ)
 claims_of P most s ts cs n = claim 15 (leb (length ts) (length s)) ∷ (operands_fit P 0 ts s ++ (cs ++ (claim 15 (leb n most) ∷ [])))
 
-pub own_claims : (P : Program) (most : ℕ) (s ts us : List Ty) (cs : List (Claim ℕ)) (r own m n : ℕ)
-    → is r ≡ then (verdict (asked P s ts)) (then (is own) (verdict (claim 15 (leb m most) ∷ []))) → ts ≡ us → is own ≡ verdict cs → m ≡ n
-    → is r ≡ verdict (claims_of P most s us cs n)
+pub own_claims : (P : Program) (most : ℕ) (s ts us : List Ty) (cs : List (Claim ℕ)) (R own : Ruling ℕ) (m n : ℕ)
+    → R ≡ then (verdict (asked P s ts)) (then own (verdict (claim 15 (leb m most) ∷ []))) → ts ≡ us → own ≡ verdict cs → m ≡ n
+    → R ≡ verdict (claims_of P most s us cs n)
 unfolding asked claims_of
-own_claims P most s ts us cs r own m n h e o l =
-    h ∙ ap (λ (ys : List Ty). then (verdict (claim 15 (leb (length ys) (length s)) ∷ operands_fit P 0 ys s)) (then (is own) (verdict (claim 15 (leb m most) ∷ [])))) e
+own_claims P most s ts us cs R own m n h e o l =
+    h ∙ ap (λ (ys : List Ty). then (verdict (claim 15 (leb (length ys) (length s)) ∷ operands_fit P 0 ys s)) (then own (verdict (claim 15 (leb m most) ∷ [])))) e
     ∙ ap (then (verdict (claim 15 (leb (length us) (length s)) ∷ operands_fit P 0 us s))) tail
     ∙ sym (verdict-append (claim 15 (leb (length us) (length s)) ∷ operands_fit P 0 us s) (cs ++ (claim 15 (leb n most) ∷ [])))
   where
-    tail : then (is own) (verdict (claim 15 (leb m most) ∷ [])) ≡ verdict (cs ++ (claim 15 (leb n most) ∷ []))
+    tail : then own (verdict (claim 15 (leb m most) ∷ [])) ≡ verdict (cs ++ (claim 15 (leb n most) ∷ []))
     tail =
         ap (λ (v : Ruling ℕ). then v (verdict (claim 15 (leb m most) ∷ []))) o
         ∙ ap (λ (k : ℕ). then (verdict cs) (verdict (claim 15 (leb k most) ∷ []))) l
         ∙ sym (verdict-append cs (claim 15 (leb n most) ∷ []))
 
 -- the form that a match found
-module _ (P : Program) (most : ℕ) (S : State) (r : ℕ) where
+module _ (P : Program) (most : ℕ) (S : State) (R : Ruling ℕ) where
   pub by_local : (i i' : Local) → i ≡ i'
-      → is r ≡ verdict (claims_of P most (stack S) (local_rule i' S).takes (local_rule i' S).asks (length (stack (local_rule i' S).after)))
-      → is r ≡ verdict (local_claims P most i S)
+      → R ≡ verdict (claims_of P most (stack S) (local_rule i' S).takes (local_rule i' S).asks (length (stack (local_rule i' S).after)))
+      → R ≡ verdict (local_claims P most i S)
   unfolding claims_of local_claims
   by_local i i' e h = rw e h
 
   pub by_stack : (i i' : Stack) → i ≡ i'
-      → is r ≡ verdict (claims_of P most (stack S) (stack_rule i' S).takes (stack_rule i' S).asks (length (stack (stack_rule i' S).after)))
-      → is r ≡ verdict (stack_claims P most i S)
+      → R ≡ verdict (claims_of P most (stack S) (stack_rule i' S).takes (stack_rule i' S).asks (length (stack (stack_rule i' S).after)))
+      → R ≡ verdict (stack_claims P most i S)
   unfolding claims_of stack_claims
   by_stack i i' e h = rw e h
 
   pub by_leave : (ds : List Desc) (i i' : Leave) → i ≡ i'
-      → is r ≡ verdict (claims_of P most (stack S) (leave_rule ds i' S).takes (leave_rule ds i' S).asks (length (stack (leave_rule ds i' S).after)))
-      → is r ≡ verdict (leave_claims P most ds i S)
+      → R ≡ verdict (claims_of P most (stack S) (leave_rule ds i' S).takes (leave_rule ds i' S).asks (length (stack (leave_rule ds i' S).after)))
+      → R ≡ verdict (leave_claims P most ds i S)
   unfolding claims_of leave_claims
   by_leave ds i i' e h = rw e h
 
-  pub by_new : (o : ℕ) → is r ≡ verdict (claims_of P most (stack S) (new_rule o S).takes (new_rule o S).asks (length (stack (new_rule o S).after)))
-      → is r ≡ verdict (new_claims P most o S)
+  pub by_new : (o : ℕ) → R ≡ verdict (claims_of P most (stack S) (new_rule o S).takes (new_rule o S).asks (length (stack (new_rule o S).after)))
+      → R ≡ verdict (new_claims P most o S)
   unfolding claims_of new_claims
   by_new o h = h
 
@@ -91,10 +89,6 @@ module _ (t : List ℕ) (x d : ℕ) where
 
   pub len_three : (k : ℕ) → 3 + (d - k) ≡ suc (suc (suc (length (drop k (stack_at t x d)))))
   len_three k = omega (arith, rest k)
-
--- a claim that a call answers in other words
-pub claim_via : (a n : ℕ) (q b : Bool) → is a ≡ verdict (claim n q ∷ []) → q ≡ b → is a ≡ verdict (claim n b ∷ [])
-claim_via a n q b h e = h ∙ ap (λ (c : Bool). verdict (claim n c ∷ [])) e
 
 module _ (q : Bool) (u v : Ty) where
   pub int_via : q ≡ is_int u → u ≡ v → q ≡ is_int v
@@ -125,7 +119,7 @@ reference_desc w = go (eqb (w % 8) 1)
     go true = refl
     go false = refl
 
-module _ (g : Gives) (e : g ≡ Nothing) where
+module _ (g : Option code.Ty) (e : g ≡ None) where
   pub int_none : false ≡ returns_int (results_of g)
   int_none = rw e
 
@@ -138,7 +132,7 @@ module _ (g : Gives) (e : g ≡ Nothing) where
   pub returned_none : (v : Ty) → v ≡ top → v ≡ returned (results_of g)
   returned_none v h = rw e h
 
-module _ (g : Gives) (w : code.Ty) (e : g ≡ Value w) where
+module _ (g : Option code.Ty) (w : code.Ty) (e : g ≡ Some w) where
   pub int_value : eqb (w.word % 8) 1 ≡ returns_int (results_of g)
   int_value = rw e (int_desc w.word)
 
@@ -151,26 +145,18 @@ module _ (g : Gives) (w : code.Ty) (e : g ≡ Value w) where
   pub returned_value : (v : Ty) → v ≡ ty_of (desc_of w.word) → v ≡ returned (results_of g)
   returned_value v h = rw e h
 
-pub two_claims : (r a b n m : ℕ) (p q : Bool) → is r ≡ then (is a) (is b) → is a ≡ verdict (claim n p ∷ []) → is b ≡ verdict (claim m q ∷ [])
-    → is r ≡ verdict (claim n p ∷ claim m q ∷ [])
-two_claims r a b n m p q h k l = one r (claim m q ∷ []) a b n p h k l
-
 -- a kind of result that a call told
-pub kinds_via : (r : ℕ) (q b c : Bool) → is r ≡ verdict (claim 16 q ∷ claim 18 c ∷ []) → q ≡ b → is r ≡ verdict (claim 16 b ∷ claim 18 c ∷ [])
-kinds_via r q b c h e = h ∙ ap (λ (x : Bool). verdict (claim 16 x ∷ claim 18 c ∷ [])) e
+pub kinds_via : (R : Ruling ℕ) (q b c : Bool) → R ≡ verdict (claim 16 q ∷ claim 18 c ∷ []) → q ≡ b → R ≡ verdict (claim 16 b ∷ claim 18 c ∷ [])
+kinds_via R q b c h e = h ∙ ap (λ (x : Bool). verdict (claim 16 x ∷ claim 18 c ∷ [])) e
 
 pub ruleset own = (copy_via, claim_via, int_via, reference_via, array_via)
 
-pub ruleset ways = (by_local, by_stack, by_leave, by_new, kinds_via, len_none, own_claims, one_type, two_types, three_types, base_int, base_object, len_same, len_push, len_drop, len_turn, len_two, len_three, nothing, same)
-
--- parts of the answer in order
-pub three_parts : (r a b m n : ℕ) (u v : Ruling ℕ) → is r ≡ then (is a) (is b) → is b ≡ then (is m) (is n) → is a ≡ u → is n ≡ v → is r ≡ then u (then (is m) v)
-three_parts r a b m n u v p q e f = p ∙ ap (λ (w : Ruling ℕ). then w (is b)) e ∙ ap (then u) (q ∙ ap (then (is m)) f)
+pub ruleset ways = (by_local, by_stack, by_leave, by_new, kinds_via, len_none, own_claims, one_type, two_types, three_types, base_int, base_object, len_same, len_push, len_drop, len_turn, len_two, len_three, none_claimed, same)
 
 -- the group's types in place of what calls gave
-pub form_to : (P : Program) (most : ℕ) (ts us ts' us' : List Ty) (S : State) (r : ℕ) → is r ≡ verdict (form_claims P most ts us S) → ts ≡ ts' → us ≡ us'
-    → is r ≡ verdict (form_claims P most ts' us' S)
-form_to P most ts us ts' us' S r h e f = h ∙ cc
+pub form_to : (P : Program) (most : ℕ) (ts us ts' us' : List Ty) (S : State) (R : Ruling ℕ) → R ≡ verdict (form_claims P most ts us S) → ts ≡ ts' → us ≡ us'
+    → R ≡ verdict (form_claims P most ts' us' S)
+form_to P most ts us ts' us' S R h e f = h ∙ cc
 
 pub turned_to : (X S : State) (k : ℕ) (ts us us' : List Ty) → X ≡ turned k us S → k ≡ length ts → us ≡ us' → X ≡ turned (length ts) us' S
 turned_to X S k ts us us' h e f = h ∙ ap (λ (i : ℕ). turned i us S) e ∙ ap (λ (y : List Ty). turned (length ts) y S) f

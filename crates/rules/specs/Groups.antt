@@ -1,6 +1,6 @@
 -- The rules of the groups whose forms look at the state, as the code follows them; and that they are the meaning's.
-use Rattle.std.specs.Prelude.{ℕ, ◌≡◌, List, [], ◌∷◌, get_or, drop, set}
-use Rattle.std.proofs.Math.Path.{refl}
+use Rattle.std.specs.Prelude.{ℕ, ◌≡◌, Option, Some, None, List, [], ◌∷◌, get_or, drop, set}
+use Rattle.std.proofs.Common.{refl}
 use Rattle.kit.specs.Claims.{Claim, claim}
 use Rattle.classfiles.specs.Descriptors.{Desc}
 use Rattle.reader.specs.Program.{Program, Method}
@@ -16,8 +16,7 @@ use Rattle.rules.specs.declared.instruction.Stack.{Stack}
 use Rattle.rules.specs.declared.instruction.Stack.TheVariants.{Dup, Dupx1, Swap, Arraylength, Aaload}
 use Rattle.rules.specs.declared.instruction.Leave.{Leave}
 use Rattle.rules.specs.declared.instruction.Leave.TheVariants.{Athrow, Ireturn, Areturn, Return}
-use Rattle.rules.specs.declared.forms.Gives.{Gives}
-use Rattle.rules.specs.declared.forms.Gives.TheVariants.{Nothing, Value}
+use Rattle.rules.specs.declared.types.Ty as code
 
 abbrev pub local_rule : Local → State → Rule
 local_rule (Iload j) (state g l s) = rule' [] (claim 16 (is_int (get_or l j top)) ∷ []) (state g l (int ∷ s)) l
@@ -35,9 +34,9 @@ stack_rule Arraylength (state g l s) = rule' (top ∷ []) (claim 16 (is_array (o
 stack_rule Aaload (state g l s) = rule' (int ∷ object_array ∷ []) [] (state g l (element_ty (operand 1 s) ∷ drop 2 s)) l
 
 -- what a method's descriptor returns
-abbrev pub results_of : Gives → List Desc
-results_of Nothing = []
-results_of (Value w) = desc_of w.word ∷ []
+abbrev pub results_of : Option code.Ty → List Desc
+results_of None = []
+results_of (Some w) = desc_of w.word ∷ []
 
 abbrev pub leave_rule : List Desc → Leave → State → Rule
 leave_rule ds Athrow (state g l s) = rule' (throwable_ty ∷ []) [] (state g l []) l

@@ -1,15 +1,10 @@
 -- The exception table in the bundle, eight bytes an entry, and what is asked of an instruction under it, as the code follows it. Assumes nothing.
-use Prim.Native.Nat.{ℕ, zero, suc, ◌+◌, ◌-◌, ◌*◌, ◌/◌, ◌%◌, ◌<◌, ◌≤◌}
-use Rattle.std.specs.Prelude.{◌≡◌, Bool, cond, not, eqb, ltb}
-use Rattle.std.proofs.Math.Path.{refl, sym, ap}
-use Rattle.std.proofs.Common.{◌∙◌, not-suc-le-zero, sub-one}
-use Rattle.std.proofs.Math.Bool.{true, false}
-use mathlib.Core.List.{List, [], ◌∷◌, ◌++◌}
+use Rattle.std.specs.Prelude.{◌≡◌, Result, IsErrAnd, Bool, cond, not, eqb, ltb}
+use Rattle.std.proofs.Common.{◌∙◌, ℕ, suc, ◌+◌, ◌*◌, ◌/◌, ◌%◌, ◌<◌, ◌≤◌, List, [], ◌∷◌, ◌++◌, arith, eq-eqb, ne_eqb, eqb-true, le-leb, refl, sym, ap, true, false}
 use Rattle.std.proofs.Math.Option.{Option, none, some}
-use native.Mathlib.Omega.{arith}
-use borrow.Author.Tests.{eq-eqb, ne_eqb, eqb-true, eqb-false, le-leb, lt-leb}
+use Rattle.std.proofs.lemmas.Bool.{eqb-false, lt-leb}
 use Rattle.kit.specs.Pick.{same}
-use Rattle.kit.specs.Claims.{Claim, claim, Ruling, is, verdict, then, one, nothing, verdict-append, is_zero, is_not, pass_then, fail_then}
+use Rattle.kit.specs.Claims.{Claim, claim, Ruling, pass, fail, ruled, verdict, then, verdict-append, pass_then, none_claimed, claim_on, claim_off, then_off}
 use Rattle.texts.specs.Reading.{u2_at}
 use Rattle.classfiles.specs.Descriptors.{cls}
 use Rattle.reader.specs.BuiltIns.{throwable, first_class}
@@ -51,45 +46,47 @@ module _ (P : Program) (catch_of : ℕ → ℕ) (fs : List Frame) (o : ℕ) (g :
   handlers_by (h ∷ hs) = handler_by h ++ handlers_by hs
 
   -- one entry: what the code finds of it
-  pub not_covered : (q : Bool) (h : Handler) → q ≡ false → q ≡ covers o h → is 0 ≡ verdict (handler_by h)
+  pub not_covered : (q : Bool) (h : Handler) → q ≡ false → q ≡ covers o h → pass ≡ verdict (handler_by h)
   unfolding handler_by
-  not_covered q h e c = nothing 0 refl ∙ sym (rw (sym c ∙ e))
+  not_covered q h e c = none_claimed ∙ sym (rw (sym c ∙ e))
 
-  pub is_covered : (q : Bool) (h : Handler) (r a b v x : ℕ) → q ≡ true → q ≡ covers o h → is r ≡ then (is a) (is b)
-      → is a ≡ verdict (claim 18 (not g) ∷ []) → is b ≡ verdict (into_frame P (state false l (type_of v ∷ [])) (frame_at fs x))
-      → type_of v ≡ ini (cls (catch_of h.catch)) → x ≡ h.target → is r ≡ verdict (handler_by h)
-  unfolding handler_by
-  is_covered q h r a b v x e c p m n f z =
-      one r (into_frame P (state false l (ini (cls (catch_of h.catch)) ∷ [])) (frame_at fs h.target)) a b 18 (not g) p m
-      (n ∙ ap (λ (u : Ty). verdict (into_frame P (state false l (u ∷ [])) (frame_at fs x))) f
-      ∙ ap (λ (y : ℕ). verdict (into_frame P (state false l (ini (cls (catch_of h.catch)) ∷ [])) (frame_at fs y))) z)
-      ∙ sym (rw (sym c ∙ e))
+  module _ (q : Bool) (h : Handler) (e : q ≡ true) (c : q ≡ covers o h) where
+    abbrev asks : List (Claim ℕ)
+    asks = into_frame P (state false l (ini (cls (catch_of h.catch)) ∷ [])) (frame_at fs h.target)
 
-  -- the loop's turns: R is what the whole table gives
+    covered : verdict (claim 18 (not g) ∷ asks) ≡ verdict (handler_by h)
+    unfolding handler_by
+    covered = sym (rw (sym c ∙ e))
+
+    pub is_covered : (R : Ruling ℕ) (v x : ℕ) → pass ≡ verdict {K = ℕ} (claim 18 (not g) ∷ []) → R ≡ verdict (into_frame P (state false l (type_of v ∷ [])) (frame_at fs x))
+        → type_of v ≡ ini (cls (catch_of h.catch)) → x ≡ h.target → R ≡ verdict (handler_by h)
+    is_covered R v x m n f z =
+        claim_on R 18 (not g) asks m
+        (n ∙ ap (λ (u : Ty). verdict (into_frame P (state false l (u ∷ [])) (frame_at fs x))) f
+        ∙ ap (λ (y : ℕ). verdict (into_frame P (state false l (ini (cls (catch_of h.catch)) ∷ [])) (frame_at fs y))) z)
+        ∙ covered
+
+    pub is_barred : {E : Type 0} (n : E → ℕ) (r : Result (Unit {0}) E) (z : E) → IsErrAnd r (λ y. y ≡ z) → fail (n z) ≡ verdict {K = ℕ} (claim 18 (not g) ∷ [])
+        → ruled n r ≡ verdict (handler_by h)
+    is_barred n r z p m = claim_off n r z p 18 (not g) asks m ∙ covered
+
+  -- the loop's turns: n entries from q on are left, then m from p on; R is what the whole table gives
   module _ (s : List ℕ) (q n : ℕ) (R : Ruling ℕ) where
-    row : 0 < n → verdict (handlers_by (handlers_from s n q)) ≡ then (verdict (handler_by (entry_at s q))) (verdict (handlers_by (handlers_from s (n - 1) (q + 8))))
+    module _ (p m : ℕ) (a : n ≡ suc m) (b : p ≡ q + 8) where
+      row : verdict (handlers_by (handlers_from s n q)) ≡ then (verdict (handler_by (entry_at s q))) (verdict (handlers_by (handlers_from s m p)))
+      unfolding handlers_by handlers_from
+      row = rw (a, b) (verdict-append (handler_by (entry_at s q)) (handlers_by (handlers_from s m (q + 8))))
+
+      pub hand_more : verdict (handlers_by (handlers_from s n q)) ≡ R → pass ≡ verdict (handler_by (entry_at s q)) → verdict (handlers_by (handlers_from s m p)) ≡ R
+      hand_more v e = sym (row ∙ pass_then _ _ (sym e)) ∙ v
+
+      pub hand_no : {E : Type 0} (k : E → ℕ) (r : Result (Unit {0}) E) (z : E) → IsErrAnd r (λ y. y ≡ z)
+          → verdict (handlers_by (handlers_from s n q)) ≡ R → fail (k z) ≡ verdict (handler_by (entry_at s q)) → ruled k r ≡ R
+      hand_no k r z y v e = then_off k r z y _ _ e ∙ sym row ∙ v
+
+    pub hand_end : verdict (handlers_by (handlers_from s n q)) ≡ R → n ≡ 0 → pass ≡ R
     unfolding handlers_by handlers_from
-    row h = go n h
-      where
-        go : (m : ℕ) → 0 < m → verdict (handlers_by (handlers_from s m q)) ≡ then (verdict (handler_by (entry_at s q))) (verdict (handlers_by (handlers_from s (m - 1) (q + 8))))
-        go zero h = absurd (not-suc-le-zero h)
-        go (suc m) h = rw (sub-one) (verdict-append (handler_by (entry_at s q)) (handlers_by (handlers_from s m (q + 8))))
-
-    pub hand_more : (x : ℕ) → verdict (handlers_by (handlers_from s n q)) ≡ R → 0 < n → is x ≡ verdict (handler_by (entry_at s q)) → x ≡ 0 → verdict (handlers_by (handlers_from s (n - 1) (q + 8))) ≡ R
-    hand_more x i h e z = sym (row h ∙ pass_then _ _ (sym e ∙ is_zero x z)) ∙ i
-
-    pub hand_no : (x : ℕ) → verdict (handlers_by (handlers_from s n q)) ≡ R → 0 < n → is x ≡ verdict (handler_by (entry_at s q)) → (x ≡ 0 → ⊥) → is x ≡ R
-    hand_no x i h e z = is_not x z ∙ sym (fail_then _ _ x (sym e ∙ is_not x z)) ∙ sym (row h) ∙ i
-
-    pub hand_end : verdict (handlers_by (handlers_from s n q)) ≡ R → n ≤ 0 → is 0 ≡ R
-    unfolding handlers_by handlers_from
-    hand_end i h = go n h ∙ i
-      where
-        go : (m : ℕ) → m ≤ 0 → is 0 ≡ verdict (handlers_by (handlers_from s m q))
-        go zero h = nothing 0 refl
-        go (suc m) h = absurd (not-suc-le-zero h)
-
-pub ruleset hands = (hand_more, hand_no, hand_end)
+    hand_end v e = none_claimed ∙ (rw e at v)
 
 -- an entry's range by what was read
 module _ (s : List ℕ) (q o a : ℕ) where

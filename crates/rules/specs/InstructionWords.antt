@@ -1,11 +1,16 @@
 -- What the code's instructions stand for.
-use Rattle.std.specs.Prelude.{ℕ, ◌/◌, ◌%◌, cond, [], ◌∷◌, eqb, get_or}
+use Rattle.std.specs.Prelude.{ℕ, ◌/◌, ◌%◌, cond, eqb}
 use Rattle.classfiles.specs.Descriptors.{Ref, cls, arr, Desc, dint, dref}
-use Rattle.rules.specs.Instruction.{Instr, FieldRef, MethodRef, Op, add, sub, mul, shl, shr, ushr, and, or, xor, Division, quotient, remainder, nop, aconstnull, pop, dup, dupx1, swap, ineg, arraylength, iaload, aaload, iastore, aastore, athrow, ireturn, areturn, return, iconst, iload, aload, istore, astore, goto, new, iinc, ibin, idiv, ifint, ificmp, ifacmp, ifnull, getfield, putfield, invokevirtual, invokespecial, invokestatic, newarray, checkcast, instanceof, illegal, unresolved}
-use Rattle.rules.specs.Opcodes.{test_of}
+use Rattle.rules.specs.Instruction.{Instr, FieldRef, MethodRef, Op, add, sub, mul, shl, shr, ushr, and, or, xor, Division, quotient, remainder, Test, eq, ne, lt, ge, gt, le, nop, aconstnull, pop, dup, dupx1, swap, ineg, arraylength, iaload, aaload, iastore, aastore, athrow, ireturn, areturn, return, iconst, iload, aload, istore, astore, goto, new, iinc, ibin, idiv, ifint, ificmp, ifacmp, ifnull, getfield, putfield, invokevirtual, invokespecial, invokestatic, newarray, checkcast, instanceof, illegal, unresolved}
 use Rattle.rules.specs.TypeWords.{nest}
 use Rattle.rules.specs.declared.instruction.Field.{Field}
 use Rattle.rules.specs.declared.instruction.Callee.{Callee}
+use Rattle.rules.specs.declared.instruction.Op as operation
+use Rattle.rules.specs.declared.instruction.Op.TheVariants.{Add, Sub, Mul, Shl, Shr, Ushr, And, Or, Xor}
+use Rattle.rules.specs.declared.instruction.Division as parts
+use Rattle.rules.specs.declared.instruction.Division.TheVariants.{Quotient, Remainder}
+use Rattle.rules.specs.declared.instruction.Test as comparison
+use Rattle.rules.specs.declared.instruction.Test.TheVariants.{Eq, Ne, Lt, Ge, Gt, Le}
 use Rattle.rules.specs.declared.instruction.Plain.{Plain}
 use Rattle.rules.specs.declared.instruction.Plain.TheVariants.{Nop, Aconstnull, Pop, Ineg, Iaload, Iastore, Aastore, Iconst, Ibin, Idiv, Newarray, Checkcast, Instanceof, Getfield, Putfield}
 use Rattle.rules.specs.declared.instruction.Branch.{Branch}
@@ -37,11 +42,28 @@ field_of f = record { named = f.named; owner = f.owner; slot = f.slot; type = de
 abbrev pub callee_of : Callee → MethodRef
 callee_of m = record { named = m.named; owner = m.owner; index = m.index }
 
-abbrev pub op_of : ℕ → Op
-op_of k = get_or (add ∷ sub ∷ mul ∷ shl ∷ shr ∷ ushr ∷ and ∷ or ∷ xor ∷ []) k add
+abbrev pub op_of : operation.Op → Op
+op_of Add = add
+op_of Sub = sub
+op_of Mul = mul
+op_of Shl = shl
+op_of Shr = shr
+op_of Ushr = ushr
+op_of And = and
+op_of Or = or
+op_of Xor = xor
 
-abbrev pub division_of : ℕ → Division
-division_of k = cond (eqb k 0) quotient remainder
+abbrev pub division_of : parts.Division → Division
+division_of Quotient = quotient
+division_of Remainder = remainder
+
+abbrev pub asked_of : comparison.Test → Test
+asked_of Eq = eq
+asked_of Ne = ne
+asked_of Lt = lt
+asked_of Ge = ge
+asked_of Gt = gt
+asked_of Le = le
 
 abbrev pub plain_of : Plain → Instr
 plain_of Nop = nop
@@ -62,8 +84,8 @@ plain_of (Putfield f) = putfield (field_of f)
 
 abbrev pub branch_of : Branch → Instr
 branch_of (Goto t) = goto t
-branch_of (Ifint f t) = ifint (test_of f) t
-branch_of (Ificmp f t) = ificmp (test_of f) t
+branch_of (Ifint f t) = ifint (asked_of f) t
+branch_of (Ificmp f t) = ificmp (asked_of f) t
 branch_of (Ifacmp b t) = ifacmp b t
 branch_of (Ifnull b t) = ifnull b t
 

@@ -1,11 +1,8 @@
 -- Each instruction's rule as the code follows it is the meaning's, where what the code knows is so of the program. Assumes nothing.
 use Rattle.std.specs.Prelude.{ℕ, suc, ◌+◌, ◌-◌, ◌/◌, ◌%◌, ◌<◌, ◌≤◌, ◌≡◌, Bool, true, eqb, leb, length, drop}
-use Rattle.std.proofs.Math.Path.{refl, ap}
-use Rattle.std.proofs.Common.{sym, ◌∙◌, arith, eq-eqb, ne_eqb, length-append}
-use Rattle.std.proofs.Math.Bool.{false}
-use mathlib.Core.List.{List, [], ◌∷◌, ◌++◌, append-nil}
+use Rattle.std.proofs.Common.{sym, ◌∙◌, arith, eq-eqb, ne_eqb, length-append, List, [], ◌∷◌, ◌++◌, append-nil, refl, ap, false}
 use Rattle.std.proofs.Math.Dec.{leb-zero}
-use Rattle.kit.specs.Claims.{Claim, claim, is, verdict, then, verdict_yes, verdict_no}
+use Rattle.kit.specs.Claims.{Claim, claim, Ruling, verdict, then, verdict_yes, verdict_no}
 use Rattle.classfiles.specs.Descriptors.{cls, Desc}
 use Rattle.reader.specs.Program.{Program, Method, class}
 use Rattle.rules.specs.Instruction.{MethodRef, invokespecial}
@@ -23,7 +20,7 @@ use Rattle.rules.specs.Slots.{stack_at, locals_at, held, Moved, Outside, dropped
 use Rattle.rules.specs.SlotLaws.{length-stack, drop-stack, stack_none, cut-held, veil_no, veil_yes}
 use Rattle.rules.specs.Forms.{asked, turned, Kept, form_claims, plain-rule, branch-rule}
 use Rattle.rules.specs.Groups.{local_rule, local_claims, local_after, stack_rule, stack_claims, stack_after, leave_rule, leave_claims, new_claims, new_after, local-rule, stack-rule, leave-rule, new-rule}
-use Rattle.rules.specs.GroupLaws.{claims_of, own_claims, three_parts, claim_via}
+use Rattle.rules.specs.GroupLaws.{claims_of, own_claims}
 use Rattle.rules.specs.CallLaws.{virtual_rule, static-rule}
 use Rattle.rules.specs.Known.{Facts, key_fits, init_fits, made_class, readied, special_rule, special_claims, special_after, emptied, callee_in, virtual_takes, call_rule, call_claims', call_after', call_claims, call_after, instr_rule, instr_claims', instr_after', instr_claims, instr_after, call_hides, hides', hides}
 use Rattle.rules.specs.declared.slots.Held.{Held}
@@ -217,12 +214,12 @@ module _ (P : Program) (M : Method) (t : List ℕ) (x n : ℕ) (p : Parents P t 
   seen_known = caught_known Q F o i g l s ∙ ap (λ (R : Rule). R.caught) (sym known)
 
 -- ---- what a match found
-module _ (L : Program) (most : ℕ) (F : Facts) (S : State) (r : ℕ) where
-  pub by_call : (c c' : Call) → c ≡ c' → is r ≡ verdict (call_claims' L most F c' S) → is r ≡ verdict (call_claims L most F c S)
+module _ (L : Program) (most : ℕ) (F : Facts) (S : State) (R : Ruling ℕ) where
+  pub by_call : (c c' : Call) → c ≡ c' → R ≡ verdict (call_claims' L most F c' S) → R ≡ verdict (call_claims L most F c S)
   unfolding call_claims
   by_call c c' e h = rw e h
 
-  pub by_form : (o : ℕ) (i i' : code.Instr) → i ≡ i' → is r ≡ verdict (instr_claims' L most F o i' S) → is r ≡ verdict (instr_claims L most F o i S)
+  pub by_form : (o : ℕ) (i i' : code.Instr) → i ≡ i' → R ≡ verdict (instr_claims' L most F o i' S) → R ≡ verdict (instr_claims L most F o i S)
   unfolding instr_claims
   by_form o i i' e h = rw e h
 
@@ -270,14 +267,13 @@ pub key_self : (w : ℕ) → (w % 8 ≡ 5 → ⊥) → self ≡ key_of (type_of 
 key_self w h = of_type key_of w self (search kinds depth 12)
 
 module _ (L : Program) (most : ℕ) (F : Facts) (c : ℕ) (t : List ℕ) (h : Held) where
-  pub special-claims : (k u v r a b m n : ℕ) (q : Bool) → k ≡ length F.params → type_of u ≡ top → type_of v ≡ operand k (stack_at t (h.at + 32) h.depth)
-      → is r ≡ then (is a) (is b) → is b ≡ then (is m) (is n) → is a ≡ verdict (asked L (stack_at t (h.at + 32) h.depth) (F.params ++ (type_of u ∷ [])))
-      → is m ≡ verdict (claim 18 q ∷ []) → q ≡ init_fits L F c (type_of v) → is n ≡ verdict (claim 15 (leb (0 + (h.depth - (k + 1))) most) ∷ [])
-      → is r ≡ verdict (special_claims L most F c (held t h))
+  pub special-parts : (k u : ℕ) (q : Bool) → k ≡ length F.params → type_of u ≡ top → q ≡ init_fits L F c (operand k (stack_at t (h.at + 32) h.depth))
+      → then (verdict (asked L (stack_at t (h.at + 32) h.depth) (F.params ++ (type_of u ∷ []))))
+      (then (verdict (claim 18 q ∷ [])) (verdict (claim 15 (leb (0 + (h.depth - (k + 1))) most) ∷ []))) ≡ verdict (special_claims L most F c (held t h))
   unfolding special_claims claims_of
-  special-claims k u v r a b m n q e f g x y z p i w =
-      own_claims L most s (F.params ++ (type_of u ∷ [])) (F.params ++ (top ∷ [])) (claim 18 (init_fits L F c (operand (length F.params) s)) ∷ []) r m (0 + (h.depth - (k + 1))) (length (replace_all K T (drop (suc (length F.params)) s)))
-      (three_parts r a b m n _ _ x y z w) (ap (λ (j : Ty). F.params ++ (j ∷ [])) f) (claim_via m 18 q (init_fits L F c (operand (length F.params) s)) p fit) long
+  special-parts k u q e f i =
+      own_claims L most s (F.params ++ (type_of u ∷ [])) (F.params ++ (top ∷ [])) (claim 18 (init_fits L F c (operand (length F.params) s)) ∷ []) _ (verdict (claim 18 q ∷ [])) (0 + (h.depth - (k + 1))) (length (replace_all K T (drop (suc (length F.params)) s)))
+      refl (ap (λ (j : Ty). F.params ++ (j ∷ [])) f) (ap (λ (b : Bool). verdict {K = ℕ} (claim 18 b ∷ [])) fit) long
     where
       s : List Ty
       s = stack_at t (h.at + 32) h.depth
@@ -289,7 +285,7 @@ module _ (L : Program) (most : ℕ) (F : Facts) (c : ℕ) (t : List ℕ) (h : He
       T = ini (cls (made_class F K))
 
       fit : q ≡ init_fits L F c (operand (length F.params) s)
-      fit = i ∙ ap (init_fits L F c) (g ∙ ap (λ (j : ℕ). operand j s) e)
+      fit = i ∙ ap (λ (j : ℕ). init_fits L F c (operand j s)) e
 
       long : 0 + (h.depth - (k + 1)) ≡ length (replace_all K T (drop (suc (length F.params)) s))
       long =
@@ -336,10 +332,10 @@ emptied-held t h r m =
     ∙ ap (λ (s : List Ty). state h.flag (locals_at t h.at h.locals) s) (drop-stack h.depth t (h.at + 32) h.depth ∙ stack_none t (h.at + 32) (h.depth - h.depth) (omega arith))
 
 -- a call's operands as the code counts them
-module _ (L : Program) (most : ℕ) (F : Facts) (S : State) (r : ℕ) (c : Call) (m : Callee) (u : Ty) where
-  pub by_virtual : c ≡ Virtual m → is r ≡ verdict (form_claims L most (F.params ++ (u ∷ [])) F.gives S) → u ≡ ini (cls m.named) → is r ≡ verdict (call_claims L most F c S)
+module _ (L : Program) (most : ℕ) (F : Facts) (S : State) (R : Ruling ℕ) (c : Call) (m : Callee) (u : Ty) where
+  pub by_virtual : c ≡ Virtual m → R ≡ verdict (form_claims L most (F.params ++ (u ∷ [])) F.gives S) → u ≡ ini (cls m.named) → R ≡ verdict (call_claims L most F c S)
   by_virtual e h f =
-      by_call L most F S r c (Virtual m) e (h ∙ ap (λ (y : Ty). verdict (form_claims L most (F.params ++ (y ∷ [])) F.gives S)) f)
+      by_call L most F S R c (Virtual m) e (h ∙ ap (λ (y : Ty). verdict (form_claims L most (F.params ++ (y ∷ [])) F.gives S)) f)
 
 module _ (F : Facts) (X S : State) (c : Call) (m : Callee) (n : ℕ) (l : n ≡ length F.params) where
   pub after_virtual : c ≡ Virtual m → X ≡ turned (n + 1) F.gives S → X ≡ call_after F c S

@@ -1,21 +1,19 @@
 -- A frame's state copied to where the state at hand stands; and how a present state and a frame meet. Assumes nothing.
-use Rattle.std.specs.Prelude.{ℕ, zero, suc, ◌+◌, ◌*◌, ◌^◌, ◌/◌, ◌<◌, ◌≤◌, ◌≡◌, refl, Bool, true, false, cond, not, List, [], ◌∷◌, ◌⊎◌, length, take}
+use Rattle.std.specs.Prelude.{ℕ, zero, suc, ◌+◌, ◌*◌, ◌^◌, ◌/◌, ◌<◌, ◌≤◌, ◌≡◌, refl, Bool, true, false, cond, List, [], ◌∷◌, ◌⊎◌, length, take}
 use Rattle.std.proofs.Common.{sym, ap, ◌∙◌, inl, inr, arith}
 use Rattle.std.proofs.Math.Option.{Option, none, some}
-use Rattle.std.proofs.lemmas.Bool.{not-true, not-false}
 use Rattle.kit.specs.Pick.{side}
 use Rattle.kit.specs.Words.{word, put_word, word_same, word_other}
-use Rattle.kit.specs.Claims.{claim, is, verdict, nothing, is_zero, fail_pass, verdict_yes, verdict_no}
+use Rattle.kit.specs.Claims.{claim, Ruling, pass, verdict, none_claimed, fail_pass, verdict_yes, verdict_no}
 use Rattle.classfiles.specs.BlockWords.{take_put}
 use Rattle.reader.specs.Program.{Program}
 use Rattle.rules.specs.States.{State, state_fits}
 use Rattle.rules.specs.Walk.{meets, merged}
 use Rattle.rules.specs.Slots.{slot, locals_at, stack_at, held, Outside}
 use Rattle.rules.specs.SlotLaws.{take_less}
-use Rattle.rules.specs.FrameRows.{standing, Sound}
+use Rattle.rules.specs.FrameRows.{Sound}
 use Rattle.rules.specs.StepClaims.{Going}
 use Rattle.rules.specs.declared.slots.Held.{Held}
-use Rattle.rules.specs.declared.frames.Standing.{Standing}
 
 -- the n words from a on stand from b on too, all others as they were
 pub record Copied (a b n : ℕ) (t u : List ℕ) : Type 0 where
@@ -102,42 +100,29 @@ module _ (t u v : List ℕ) (g : Held) (x : ℕ) (s : Sound t g) (h : g.at + 68 
 abbrev pub current : Bool → State → Option State
 current live S = cond live (some S) none
 
-module _ (t : List ℕ) (p : Standing) (F : Option State) (h : standing t p ≡ F) where
-  pub not_there : not p.there ≡ true → F ≡ none
-  not_there e = sym h ∙ go p.there (not-true p.there e)
-    where
-      go : (b : Bool) → b ≡ false → cond b (some (held t p.held)) none ≡ none
-      go b z = rw z
-
-  pub is_there : not p.there ≡ false → F ≡ some (held t p.held)
-  is_there e = sym h ∙ go p.there (not-false p.there e)
-    where
-      go : (b : Bool) → b ≡ true → cond b (some (held t p.held)) none ≡ some (held t p.held)
-      go b z = rw z
-
 module _ (P : Program) (live : Bool) (S : State) (F : Option State) where
   -- without a frame the state goes on, where there is one
-  pub meet_none : (r : ℕ) → F ≡ none → is r ≡ verdict (claim 17 live ∷ []) → is r ≡ verdict (meets P (current live S) F)
-  meet_none r f h = h ∙ go live ∙ ap (λ (G : Option State). verdict (meets P (current live S) G)) (sym f)
+  pub meet_none : (R : Ruling ℕ) → F ≡ none → R ≡ verdict (claim 17 live ∷ []) → R ≡ verdict (meets P (current live S) F)
+  meet_none R f h = h ∙ go live ∙ ap (λ (G : Option State). verdict (meets P (current live S) G)) (sym f)
     where
       go : (b : Bool) → verdict {K = ℕ} (claim 17 b ∷ []) ≡ verdict (meets P (current b S) none)
       go true = verdict_yes 17 true [] refl
       go false = refl
 
   module _ (G : State) (f : F ≡ some G) where
-    pub meet_fit : live ≡ true → (r : ℕ) → is r ≡ verdict (state_fits P S G) → is r ≡ verdict (meets P (current live S) F)
-    meet_fit e r h = rw (e, f) h
+    pub meet_fit : live ≡ true → (R : Ruling ℕ) → R ≡ verdict (state_fits P S G) → R ≡ verdict (meets P (current live S) F)
+    meet_fit e R h = rw (e, f) h
 
-    pub meet_new : live ≡ false → is 0 ≡ verdict (meets P (current live S) F)
-    meet_new e = rw (e, f) (nothing 0 refl)
+    pub meet_new : live ≡ false → pass ≡ verdict (meets P (current live S) F)
+    meet_new e = rw (e, f) none_claimed
 
 module _ (live : Bool) (S : State) (F : Option State) where
-  pub merge_none : (r : ℕ) → F ≡ none → is r ≡ verdict (claim 17 live ∷ []) → r ≡ 0 → S ≡ merged (current live S) F
-  merge_none r f h z = go live h ∙ ap (merged (current live S)) (sym f)
+  pub merge_none : F ≡ none → pass ≡ verdict {K = ℕ} (claim 17 live ∷ []) → S ≡ merged (current live S) F
+  merge_none f h = go live h ∙ ap (merged (current live S)) (sym f)
     where
-      go : (b : Bool) → is r ≡ verdict (claim 17 b ∷ []) → S ≡ merged (current b S) none
+      go : (b : Bool) → pass ≡ verdict {K = ℕ} (claim 17 b ∷ []) → S ≡ merged (current b S) none
       go true e = refl
-      go false e = absurd (fail_pass 17 (sym (verdict_no 17 false [] refl) ∙ sym e ∙ is_zero r z))
+      go false e = absurd (fail_pass 17 (sym (verdict_no 17 false [] refl) ∙ sym e))
 
   pub merge_frame : (G X : State) → F ≡ some G → X ≡ G → X ≡ merged (current live S) F
   merge_frame G X f e = e ∙ go live ∙ ap (merged (current live S)) (sym f)

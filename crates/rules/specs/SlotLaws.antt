@@ -1,32 +1,30 @@
 -- Laws of states in words: what reads and stores of words are to the state, in the direction in which the code's returns ask for them.
 -- Assumes nothing.
-use Prim.Native.Nat.{ℕ, zero, suc, ◌+◌, ◌-◌, ◌*◌, ◌/◌, ◌^◌, ◌<◌, ◌≤◌}
-use Rattle.std.specs.Prelude.{◌≡◌, Bool, true, not, ◌⊎◌, eqb, leb, length, get_or, take, drop, set}
-use Rattle.std.proofs.Math.Path.{refl, sym, ap}
-use Rattle.std.proofs.Common.{◌∙◌, inl, inr, arith, not-suc-le-zero, add-one, sub-one, take-take, le-leb, ne_eqb, eq-eqb}
-use Rattle.std.proofs.Math.Bool.{false, cond}
+use Rattle.std.specs.Prelude.{◌≡◌, Result, IsErrAnd, Option, Some, None, is_some, Bool, true, not, ◌⊎◌, eqb, leb, length, get_or, take, drop, set}
+use Rattle.std.proofs.Common.{◌∙◌, inl, inr, arith, not-suc-le-zero, add-one, sub-one, take-take, le-leb, ne_eqb, eq-eqb, ℕ, zero, suc, ◌+◌, ◌-◌, ◌*◌, ◌/◌, ◌^◌, ◌<◌, ◌≤◌, List, [], ◌∷◌, ◌++◌, refl, sym, ap, false, cond}
 use Rattle.std.specs.Bool.{beq}
-use mathlib.Core.List.{List, [], ◌∷◌, ◌++◌}
 use Rattle.std.proofs.Math.ListN.{get_or-eq_default}
 use Rattle.std.proofs.Math.Seq.{set_out}
 use Rattle.std.proofs.lemmas.Bool.{lt-leb, not-true, not-false}
 use Rattle.kit.specs.Pick.{side}
-use Rattle.kit.specs.Claims.{claim, Ruling, is, verdict, then, is_zero, fails, pos_eqb, verdict_yes, verdict_none, then_pass, verdict-append}
+use Rattle.kit.specs.Claims.{claim, Ruling, pass, fail, ruled, verdict, verdict_yes, none_claimed, claim_fails, claims_on, claims_off}
 use Rattle.kit.specs.Words.{word, put_word, word_same, word_other}
 use Rattle.classfiles.specs.BlockWords.{take_put}
 use Rattle.reader.specs.Program.{Program}
 use Rattle.rules.specs.Types.{Key, Ty, top, is_uninit, fits}
 use Rattle.rules.specs.States.{state, top_of, operand, slots_fit, state_fits, replace_all, no_copy}
 use Rattle.rules.specs.TypeWords.{type_of}
+use Rattle.rules.specs.Rule.{key_of}
 use Rattle.rules.specs.declared.slots.Held.{Held}
-use Rattle.rules.specs.Slots.{slot, locals_at, stack_at, held, Roomy, Outside, Moved, pushed, dropped, stored, swap1, locals_swapped, all_swapped, veil1, veil, Swapped}
+use Rattle.rules.specs.declared.types.Ty as code
+use Rattle.rules.specs.Slots.{slot, locals_at, stack_at, held, Roomy, Outside, Moved, pushed, dropped, stored, swap1, locals_swapped, all_swapped, veil1, veil, hidden_key, Swapped}
 
 -- ---- one claim
-pub claim_yes : (n : ℕ) (b : Bool) → b ≡ true → is 0 ≡ verdict (claim n b ∷ [])
-claim_yes n b e = is_zero 0 refl ∙ sym (verdict_yes n b [] e ∙ verdict_none)
+pub claim_yes : (n : ℕ) (b : Bool) → b ≡ true → pass ≡ verdict (claim n b ∷ [])
+claim_yes n b e = none_claimed ∙ sym (verdict_yes n b [] e)
 
-pub claim_no : (n : ℕ) (b : Bool) → b ≡ false → eqb n 0 ≡ false → is n ≡ verdict (claim n b ∷ [])
-claim_no n b e z = fails n [] b e z
+pub claim_no : (n : ℕ) (b : Bool) → b ≡ false → fail n ≡ verdict (claim n b ∷ [])
+claim_no n b e = claim_fails n [] b e
 
 -- ---- slots
 pub slot_is : (t : List ℕ) (i : ℕ) → type_of (word t i) ≡ slot t i
@@ -72,6 +70,13 @@ unfolding locals_at
 length_locals t x zero = refl
 length_locals t x (suc n) = ap suc (length_locals t (suc x) n)
 
+-- ---- a loop over n - i of n, at its start and a turn on
+pub whole : (n : ℕ) → n - 0 ≡ n
+whole n = omega arith
+
+pub turned_one : (n i : ℕ) → n - (i + 1) ≡ n - i - 1
+turned_one n i = omega arith
+
 -- ---- operands
 pub drop-stack : (k : ℕ) (t : List ℕ) (x d : ℕ) → drop k (stack_at t x d) ≡ stack_at t x (d - k)
 unfolding stack_at
@@ -94,6 +99,10 @@ pub stack_none : (t : List ℕ) (x d : ℕ) → d ≤ 0 → stack_at t x d ≡ [
 unfolding stack_at
 stack_none t x zero h = refl
 stack_none t x (suc d) h = absurd (not-suc-le-zero h)
+
+-- the last of d - i operands
+pub stack_next : (t : List ℕ) (x d i : ℕ) → i < d → stack_at t x (d - i) ≡ slot t (x + (d - (i + 1))) ∷ stack_at t x (d - (i + 1))
+stack_next t x d i h = rw (turned_one d i) (stack_cons t x (d - i) (omega arith))
 
 module _ (t : List ℕ) (x d k : ℕ) where
   pub peek_at : (r : ℕ) → r ≡ word t (x + (d - k - 1)) → k < d → type_of r ≡ operand k (stack_at t x d)
@@ -123,45 +132,46 @@ module _ (t : List ℕ) (x n j : ℕ) where
 
 -- ---- depths
 module _ (k d : ℕ) where
-  pub need_yes : k ≤ d → is 0 ≡ verdict (claim 15 (leb k d) ∷ [])
+  pub need_yes : k ≤ d → pass ≡ verdict {K = ℕ} (claim 15 (leb k d) ∷ [])
   need_yes h = claim_yes 15 (leb k d) (le-leb k d h)
 
-  pub need_no : d < k → is 15 ≡ verdict (claim 15 (leb k d) ∷ [])
-  need_no h = claim_no 15 (leb k d) (lt-leb k d h) refl
+  pub need_no : d < k → fail 15 ≡ verdict {K = ℕ} (claim 15 (leb k d) ∷ [])
+  need_no h = claim_no 15 (leb k d) (lt-leb k d h)
 
 -- room for p more where k of d go; q is what the code has for the rest
 module _ (p d k most : ℕ) where
-  pub room_none : most < p → is 15 ≡ verdict (claim 15 (leb (p + (d - k)) most) ∷ [])
+  pub room_none : most < p → fail 15 ≡ verdict {K = ℕ} (claim 15 (leb (p + (d - k)) most) ∷ [])
   room_none h = need_no (p + (d - k)) most (omega arith)
 
   module _ (q : ℕ) where
-    pub room_no : p ≤ most → q ≡ d - k → most - p < q → is 15 ≡ verdict (claim 15 (leb (p + (d - k)) most) ∷ [])
+    pub room_no : p ≤ most → q ≡ d - k → most - p < q → fail 15 ≡ verdict {K = ℕ} (claim 15 (leb (p + (d - k)) most) ∷ [])
     room_no h e l = need_no (p + (d - k)) most (omega arith)
 
-    pub room_yes : p ≤ most → q ≡ d - k → q ≤ most - p → is 0 ≡ verdict (claim 15 (leb (p + (d - k)) most) ∷ [])
+    pub room_yes : p ≤ most → q ≡ d - k → q ≤ most - p → pass ≡ verdict {K = ℕ} (claim 15 (leb (p + (d - k)) most) ∷ [])
     room_yes h e l = need_yes (p + (d - k)) most (omega arith)
 
 -- ---- a copy among the operands: a loop that counts down; a is what was read, q what was found of it
-module _ (t : List ℕ) (x : ℕ) (k : Key) (n : ℕ) (R : Bool) where
-  none_step : (b : Bool) → 0 < n → is_uninit k (slot t (x + (n - 1))) ≡ b → no_copy k (stack_at t x n) ≡ cond b false (no_copy k (stack_at t x (n - 1)))
+module _ (t : List ℕ) (x : ℕ) (k : Key) (d i : ℕ) (R : Bool) where
+  none_step : (b : Bool) → i < d → is_uninit k (slot t (x + (d - (i + 1)))) ≡ b
+      → no_copy k (stack_at t x (d - i)) ≡ cond b false (no_copy k (stack_at t x (d - (i + 1))))
   unfolding no_copy
   none_step b h e =
-      ap (no_copy k) (stack_cons t x n h) ∙ ap (λ (b : Bool). cond b false (no_copy k (stack_at t x (n - 1)))) e
+      ap (no_copy k) (stack_next t x d i h) ∙ ap (λ (b : Bool). cond b false (no_copy k (stack_at t x (d - (i + 1))))) e
 
   module _ (a : ℕ) (q : Bool) where
-    found : (b : Bool) → q ≡ b → q ≡ is_uninit k (type_of a) → a ≡ word t (x + (n - 1)) → is_uninit k (slot t (x + (n - 1))) ≡ b
-    found b e s r = ap (is_uninit k) (sym (slot_is t (x + (n - 1))) ∙ ap type_of (sym r)) ∙ sym s ∙ e
+    found : (b : Bool) → q ≡ b → q ≡ is_uninit k (type_of a) → a ≡ word t (x + (d - (i + 1))) → is_uninit k (slot t (x + (d - (i + 1)))) ≡ b
+    found b e s r = ap (is_uninit k) (sym (slot_is t (x + (d - (i + 1)))) ∙ ap type_of (sym r)) ∙ sym s ∙ e
 
-    pub copy_hit : no_copy k (stack_at t x n) ≡ R → 0 < n → q ≡ true → q ≡ is_uninit k (type_of a) → a ≡ word t (x + (n - 1)) → false ≡ R
-    copy_hit i h e s r = sym (none_step true h (found true e s r)) ∙ i
+    pub copy_hit : no_copy k (stack_at t x (d - i)) ≡ R → i < d → q ≡ true → q ≡ is_uninit k (type_of a) → a ≡ word t (x + (d - (i + 1))) → false ≡ R
+    copy_hit v h e s r = sym (none_step true h (found true e s r)) ∙ v
 
-    pub copy_more : no_copy k (stack_at t x n) ≡ R → 0 < n → q ≡ false → q ≡ is_uninit k (type_of a) → a ≡ word t (x + (n - 1))
-        → no_copy k (stack_at t x (n - 1)) ≡ R
-    copy_more i h e s r = sym (none_step false h (found false e s r)) ∙ i
+    pub copy_more : no_copy k (stack_at t x (d - i)) ≡ R → i < d → q ≡ false → q ≡ is_uninit k (type_of a) → a ≡ word t (x + (d - (i + 1)))
+        → no_copy k (stack_at t x (d - (i + 1))) ≡ R
+    copy_more v h e s r = sym (none_step false h (found false e s r)) ∙ v
 
-  pub copy_end : no_copy k (stack_at t x n) ≡ R → n ≤ 0 → true ≡ R
+  pub copy_end : no_copy k (stack_at t x (d - i)) ≡ R → d ≤ i → true ≡ R
   unfolding no_copy
-  copy_end i h = sym (ap (no_copy k) (stack_none t x n h)) ∙ i
+  copy_end v h = sym (ap (no_copy k) (stack_none t x (d - i) (omega arith))) ∙ v
 
 -- ---- stores
 module _ (t : List ℕ) (i w : ℕ) where
@@ -343,14 +353,11 @@ module _ (k : Key) (v : Ty) (t u z : List ℕ) (h : Held) (p : Roomy t h) (s : S
       (swap_outside k v u z h.at (h.at + 32) h.depth r (omega arith) (omega arith))
 
 -- ---- fitting
-module _ (b : Bool) (k : Key) (u : Ty) where
-  pub veil_on : (r : Ty) (v : Ty) → b ≡ true → r ≡ swap1 k v u → v ≡ top → r ≡ veil1 b k u
-  veil_on r v e h z = h ∙ ap (λ (y : Ty). swap1 k y u) z ∙ sym (on b e)
-    where
-      on : (c : Bool) → c ≡ true → veil1 c k u ≡ swap1 k top u
-      on c e = rw e
+module _ (hidden : Option code.Ty) (u : Ty) where
+  pub veil_on : (w : code.Ty) (r : Ty) (v : Ty) → hidden ≡ Some w → r ≡ swap1 (key_of (type_of w.word)) v u → v ≡ top → r ≡ veil1 (is_some hidden) (hidden_key hidden) u
+  veil_on w r v e h z = rw e (h ∙ ap (λ (y : Ty). swap1 (key_of (type_of w.word)) y u) z)
 
-  pub veil_off : b ≡ false → u ≡ veil1 b k u
+  pub veil_off : hidden ≡ None → u ≡ veil1 (is_some hidden) (hidden_key hidden) u
   veil_off e = rw e
 
 pub veil_no : (k : Key) (l : List Ty) → veil false k l ≡ l
@@ -369,94 +376,84 @@ module _ (P : Program) (t u : Ty) (ts us : List Ty) where
   unfolding slots_fit
   slots_more e = verdict_yes 16 (fits P t u) (slots_fit P ts us) e
 
-  slots_no : fits P t u ≡ false → is 16 ≡ verdict (slots_fit P (t ∷ ts) (u ∷ us))
+  slots_no : fits P t u ≡ false → fail 16 ≡ verdict (slots_fit P (t ∷ ts) (u ∷ us))
   unfolding slots_fit
-  slots_no e = fails 16 (slots_fit P ts us) (fits P t u) e refl
+  slots_no e = claim_fails 16 (slots_fit P ts us) (fits P t u) e
 
-slots_none : (P : Program) → is 0 ≡ verdict (slots_fit P [] [])
+slots_none : (P : Program) → pass ≡ verdict (slots_fit P [] [])
 unfolding slots_fit
-slots_none P = is_zero 0 refl ∙ sym verdict_none
+slots_none P = none_claimed
 
 -- a loop over locals upwards: a and b are the words read, v what is seen of a, f what was found
-module _ (P : Program) (t : List ℕ) (hide : Bool) (k : Key) (p q n : ℕ) (R : Ruling ℕ) where
-  locals_cons : 0 < n → verdict (slots_fit P (veil hide k (locals_at t p n)) (locals_at t q n))
-      ≡ verdict (slots_fit P (veil1 hide k (slot t p) ∷ veil hide k (locals_at t (p + 1) (n - 1))) (slot t q ∷ locals_at t (q + 1) (n - 1)))
+module _ (P : Program) (t : List ℕ) (hide : Bool) (k : Key) (x y n i : ℕ) (R : Ruling ℕ) where
+  locals_cons : i < n → verdict (slots_fit P (veil hide k (locals_at t (x + i) (n - i))) (locals_at t (y + i) (n - i)))
+      ≡ verdict (slots_fit P (veil1 hide k (slot t (x + i)) ∷ veil hide k (locals_at t (x + (i + 1)) (n - (i + 1)))) (slot t (y + i) ∷ locals_at t (y + (i + 1)) (n - (i + 1))))
   unfolding locals_at veil
-  locals_cons h = go n h
-    where
-      go : (m : ℕ) → 0 < m → verdict (slots_fit P (veil hide k (locals_at t p m)) (locals_at t q m))
-          ≡ verdict (slots_fit P (veil1 hide k (slot t p) ∷ veil hide k (locals_at t (p + 1) (m - 1))) (slot t q ∷ locals_at t (q + 1) (m - 1)))
-      go zero h = absurd (not-suc-le-zero h)
-      go (suc m) h = simp (sub-one, add-one)
+  locals_cons h =
+      let e : n - i ≡ suc (n - (i + 1)) = omega arith in
+      let a : x + (i + 1) ≡ suc (x + i) = omega arith in
+      let b : y + (i + 1) ≡ suc (y + i) = omega arith in
+      rw (e, a, b)
 
   module _ (a b v : ℕ) (f : Bool) where
-    seen : (c : Bool) → f ≡ c → f ≡ fits P (type_of v) (type_of b) → type_of v ≡ veil1 hide k (type_of a) → a ≡ word t p → b ≡ word t q
-        → fits P (veil1 hide k (slot t p)) (slot t q) ≡ c
+    seen : (c : Bool) → f ≡ c → f ≡ fits P (type_of v) (type_of b) → type_of v ≡ veil1 hide k (type_of a) → a ≡ word t (x + i) → b ≡ word t (y + i)
+        → fits P (veil1 hide k (slot t (x + i))) (slot t (y + i)) ≡ c
     unfolding slot
-    seen c e s g x y = rw (← x, ← y, ← g, ← s) e
+    seen c e s g p q = rw (← p, ← q, ← g, ← s) e
 
-    pub locals_more : verdict (slots_fit P (veil hide k (locals_at t p n)) (locals_at t q n)) ≡ R → 0 < n → not f ≡ false
-        → f ≡ fits P (type_of v) (type_of b) → type_of v ≡ veil1 hide k (type_of a) → a ≡ word t p → b ≡ word t q
-        → verdict (slots_fit P (veil hide k (locals_at t (p + 1) (n - 1))) (locals_at t (q + 1) (n - 1))) ≡ R
-    locals_more i h e s g x y =
-        sym (locals_cons h ∙ slots_more P (veil1 hide k (slot t p)) (slot t q) (veil hide k (locals_at t (p + 1) (n - 1))) (locals_at t (q + 1) (n - 1)) (seen true (not-false f e) s g x y)) ∙ i
+    pub locals_more : verdict (slots_fit P (veil hide k (locals_at t (x + i) (n - i))) (locals_at t (y + i) (n - i))) ≡ R → i < n → not f ≡ false
+        → f ≡ fits P (type_of v) (type_of b) → type_of v ≡ veil1 hide k (type_of a) → a ≡ word t (x + i) → b ≡ word t (y + i)
+        → verdict (slots_fit P (veil hide k (locals_at t (x + (i + 1)) (n - (i + 1)))) (locals_at t (y + (i + 1)) (n - (i + 1)))) ≡ R
+    locals_more w h e s g p q = sym (locals_cons h ∙ slots_more P _ _ _ _ (seen true (not-false f e) s g p q)) ∙ w
 
-    pub locals_no : verdict (slots_fit P (veil hide k (locals_at t p n)) (locals_at t q n)) ≡ R → 0 < n → not f ≡ true
-        → f ≡ fits P (type_of v) (type_of b) → type_of v ≡ veil1 hide k (type_of a) → a ≡ word t p → b ≡ word t q → is 16 ≡ R
-    locals_no i h e s g x y =
-        slots_no P (veil1 hide k (slot t p)) (slot t q) (veil hide k (locals_at t (p + 1) (n - 1))) (locals_at t (q + 1) (n - 1)) (seen false (not-true f e) s g x y)
-        ∙ sym (locals_cons h) ∙ i
+    pub locals_no : verdict (slots_fit P (veil hide k (locals_at t (x + i) (n - i))) (locals_at t (y + i) (n - i))) ≡ R → i < n → not f ≡ true
+        → f ≡ fits P (type_of v) (type_of b) → type_of v ≡ veil1 hide k (type_of a) → a ≡ word t (x + i) → b ≡ word t (y + i) → fail 16 ≡ R
+    locals_no w h e s g p q = slots_no P _ _ _ _ (seen false (not-true f e) s g p q) ∙ sym (locals_cons h) ∙ w
 
-  pub locals_end : verdict (slots_fit P (veil hide k (locals_at t p n)) (locals_at t q n)) ≡ R → n ≤ 0 → is 0 ≡ R
+  pub locals_end : verdict (slots_fit P (veil hide k (locals_at t (x + i) (n - i))) (locals_at t (y + i) (n - i))) ≡ R → n ≤ i → pass ≡ R
   unfolding locals_at veil
-  locals_end i h = go n h ∙ i
-    where
-      go : (m : ℕ) → m ≤ 0 → is 0 ≡ verdict (slots_fit P (veil hide k (locals_at t p m)) (locals_at t q m))
-      go zero h = slots_none P
-      go (suc m) h = absurd (not-suc-le-zero h)
+  locals_end w h =
+      let e : n - i ≡ 0 = omega arith in
+      slots_none P ∙ (rw e at w)
 
 -- a loop over operands downwards
-module _ (P : Program) (t : List ℕ) (x y n : ℕ) (R : Ruling ℕ) where
-  operands_cons : 0 < n → verdict (slots_fit P (stack_at t x n) (stack_at t y n))
-      ≡ verdict (slots_fit P (slot t (x + (n - 1)) ∷ stack_at t x (n - 1)) (slot t (y + (n - 1)) ∷ stack_at t y (n - 1)))
-  operands_cons h =
-      ap (λ (l : List Ty). verdict (slots_fit P l (stack_at t y n))) (stack_cons t x n h)
-      ∙ ap (λ (l : List Ty). verdict (slots_fit P (slot t (x + (n - 1)) ∷ stack_at t x (n - 1)) l)) (stack_cons t y n h)
+module _ (P : Program) (t : List ℕ) (x y d i : ℕ) (R : Ruling ℕ) where
+  operands_cons : i < d → verdict (slots_fit P (stack_at t x (d - i)) (stack_at t y (d - i)))
+      ≡ verdict (slots_fit P (slot t (x + (d - (i + 1))) ∷ stack_at t x (d - (i + 1))) (slot t (y + (d - (i + 1))) ∷ stack_at t y (d - (i + 1))))
+  operands_cons h = rw (stack_next t x d i h, stack_next t y d i h)
 
   module _ (a b : ℕ) (f : Bool) where
-    compared : (c : Bool) → f ≡ c → f ≡ fits P (type_of a) (type_of b) → a ≡ word t (x + (n - 1)) → b ≡ word t (y + (n - 1))
-        → fits P (slot t (x + (n - 1))) (slot t (y + (n - 1))) ≡ c
+    compared : (c : Bool) → f ≡ c → f ≡ fits P (type_of a) (type_of b) → a ≡ word t (x + (d - (i + 1))) → b ≡ word t (y + (d - (i + 1)))
+        → fits P (slot t (x + (d - (i + 1)))) (slot t (y + (d - (i + 1)))) ≡ c
     unfolding slot
     compared c e s p q = rw (← p, ← q, ← s) e
 
-    pub operands_more : verdict (slots_fit P (stack_at t x n) (stack_at t y n)) ≡ R → 0 < n → not f ≡ false → f ≡ fits P (type_of a) (type_of b)
-        → a ≡ word t (x + (n - 1)) → b ≡ word t (y + (n - 1)) → verdict (slots_fit P (stack_at t x (n - 1)) (stack_at t y (n - 1))) ≡ R
-    operands_more i h e s p q =
-        sym (operands_cons h ∙ slots_more P (slot t (x + (n - 1))) (slot t (y + (n - 1))) (stack_at t x (n - 1)) (stack_at t y (n - 1)) (compared true (not-false f e) s p q)) ∙ i
+    pub operands_more : verdict (slots_fit P (stack_at t x (d - i)) (stack_at t y (d - i))) ≡ R → i < d → not f ≡ false → f ≡ fits P (type_of a) (type_of b)
+        → a ≡ word t (x + (d - (i + 1))) → b ≡ word t (y + (d - (i + 1)))
+        → verdict (slots_fit P (stack_at t x (d - (i + 1))) (stack_at t y (d - (i + 1)))) ≡ R
+    operands_more w h e s p q = sym (operands_cons h ∙ slots_more P _ _ _ _ (compared true (not-false f e) s p q)) ∙ w
 
-    pub operands_no : verdict (slots_fit P (stack_at t x n) (stack_at t y n)) ≡ R → 0 < n → not f ≡ true → f ≡ fits P (type_of a) (type_of b)
-        → a ≡ word t (x + (n - 1)) → b ≡ word t (y + (n - 1)) → is 16 ≡ R
-    operands_no i h e s p q =
-        slots_no P (slot t (x + (n - 1))) (slot t (y + (n - 1))) (stack_at t x (n - 1)) (stack_at t y (n - 1)) (compared false (not-true f e) s p q)
-        ∙ sym (operands_cons h) ∙ i
+    pub operands_no : verdict (slots_fit P (stack_at t x (d - i)) (stack_at t y (d - i))) ≡ R → i < d → not f ≡ true → f ≡ fits P (type_of a) (type_of b)
+        → a ≡ word t (x + (d - (i + 1))) → b ≡ word t (y + (d - (i + 1))) → fail 16 ≡ R
+    operands_no w h e s p q = slots_no P _ _ _ _ (compared false (not-true f e) s p q) ∙ sym (operands_cons h) ∙ w
 
-  pub operands_end : verdict (slots_fit P (stack_at t x n) (stack_at t y n)) ≡ R → n ≤ 0 → is 0 ≡ R
-  operands_end i h =
-      slots_none P
-      ∙ sym (ap (λ (l : List Ty). verdict (slots_fit P l (stack_at t y n))) (stack_none t x n h) ∙ ap (λ (l : List Ty). verdict (slots_fit P [] l)) (stack_none t y n h))
-      ∙ i
+  pub operands_end : verdict (slots_fit P (stack_at t x (d - i)) (stack_at t y (d - i))) ≡ R → d ≤ i → pass ≡ R
+  unfolding stack_at
+  operands_end w h =
+      let e : d - i ≡ 0 = omega arith in
+      slots_none P ∙ (rw e at w)
 
 -- lists of different lengths do not fit
-slots_uneven : (P : Program) (l m : List Ty) → (length l ≡ length m → ⊥) → is 16 ≡ verdict (slots_fit P l m)
+slots_uneven : (P : Program) (l m : List Ty) → (length l ≡ length m → ⊥) → fail 16 ≡ verdict (slots_fit P l m)
 unfolding slots_fit
 slots_uneven P [] [] h = absurd (h refl)
-slots_uneven P [] (u ∷ us) h = fails 16 [] false refl refl
-slots_uneven P (t ∷ ts) [] h = fails 16 [] false refl refl
+slots_uneven P [] (u ∷ us) h = claim_fails 16 [] false refl
+slots_uneven P (t ∷ ts) [] h = claim_fails 16 [] false refl
 slots_uneven P (t ∷ ts) (u ∷ us) h = go (fits P t u) refl (slots_uneven P ts us (λ e. h (ap suc e)))
   where
-    go : (b : Bool) → fits P t u ≡ b → is 16 ≡ verdict (slots_fit P ts us) → is 16 ≡ verdict (claim 16 (fits P t u) ∷ slots_fit P ts us)
+    go : (b : Bool) → fits P t u ≡ b → fail 16 ≡ verdict (slots_fit P ts us) → fail 16 ≡ verdict {K = ℕ} (claim 16 (fits P t u) ∷ slots_fit P ts us)
     go true e r = r ∙ sym (verdict_yes 16 (fits P t u) (slots_fit P ts us) e)
-    go false e r = fails 16 (slots_fit P ts us) (fits P t u) e refl
+    go false e r = claim_fails 16 (slots_fit P ts us) (fits P t u) e
 
 length-veil : (b : Bool) (k : Key) (l : List Ty) → length (veil b k l) ≡ length l
 unfolding veil
@@ -464,15 +461,15 @@ length-veil b k [] = refl
 length-veil b k (t ∷ l) = ap suc (length-veil b k l)
 
 pub locals_uneven : (P : Program) (t : List ℕ) (b : Bool) (k : Key) (x n y m : ℕ) → (n ≡ m → ⊥)
-    → is 16 ≡ verdict (slots_fit P (veil b k (locals_at t x n)) (locals_at t y m))
+    → fail 16 ≡ verdict (slots_fit P (veil b k (locals_at t x n)) (locals_at t y m))
 locals_uneven P t b k x n y m h =
     slots_uneven P (veil b k (locals_at t x n)) (locals_at t y m)
     (λ e. h (sym (length-veil b k (locals_at t x n) ∙ length_locals t x n) ∙ e ∙ length_locals t y m))
 
-pub locals_even : (P : Program) (t : List ℕ) (b : Bool) (k : Key) (x n y m r : ℕ) → n ≡ m
-    → is r ≡ verdict (slots_fit P (veil b k (locals_at t x m)) (locals_at t y m))
-    → is r ≡ verdict (slots_fit P (veil b k (locals_at t x n)) (locals_at t y m))
-locals_even P t b k x n y m r e h = rw e h
+pub locals_even : (P : Program) (t : List ℕ) (b : Bool) (k : Key) (x n y m : ℕ) (R : Ruling ℕ) → n ≡ m
+    → R ≡ verdict (slots_fit P (veil b k (locals_at t x m)) (locals_at t y m))
+    → R ≡ verdict (slots_fit P (veil b k (locals_at t x n)) (locals_at t y m))
+locals_even P t b k x n y m R e h = rw e h
 
 pub same_set : (a b : Bool) → a ≡ true → b ≡ beq a b
 same_set a true e = rw e
@@ -480,83 +477,90 @@ same_set a false e = rw e
 
 -- whole states
 module _ (P : Program) (g g' : Bool) (l l' s s' : List Ty) where
-  states_flag : beq g g' ≡ false → is 18 ≡ verdict (state_fits P (state g l s) (state g' l' s'))
+  states_flag : beq g g' ≡ false → fail 18 ≡ verdict (state_fits P (state g l s) (state g' l' s'))
   unfolding state_fits
-  states_flag e = fails 18 _ (beq g g') e refl
+  states_flag e = claim_fails 18 _ (beq g g') e
 
-  states_depth : beq g g' ≡ true → (length s ≡ length s' → ⊥) → is 16 ≡ verdict (state_fits P (state g l s) (state g' l' s'))
+  states_depth : beq g g' ≡ true → (length s ≡ length s' → ⊥) → fail 16 ≡ verdict (state_fits P (state g l s) (state g' l' s'))
   unfolding state_fits
   states_depth e h =
-      fails 16 (slots_fit P l l' ++ slots_fit P s s') (eqb (length s) (length s')) (ne_eqb (length s) (length s') h) refl
+      claim_fails 16 (slots_fit P l l' ++ slots_fit P s s') (eqb (length s) (length s')) (ne_eqb (length s) (length s') h)
       ∙ sym (verdict_yes 18 (beq g g') _ e)
 
-  states_slots : (r a b : ℕ) → beq g g' ≡ true → length s ≡ length s' → is r ≡ then (is a) (is b) → is a ≡ verdict (slots_fit P l l')
-      → is b ≡ verdict (slots_fit P s s') → is r ≡ verdict (state_fits P (state g l s) (state g' l' s'))
+  states_slots : (R : Ruling ℕ) → beq g g' ≡ true → length s ≡ length s' → R ≡ verdict (slots_fit P l l' ++ slots_fit P s s')
+      → R ≡ verdict (state_fits P (state g l s) (state g' l' s'))
   unfolding state_fits
-  states_slots r a b e h q m n =
-      q ∙ ap (λ (v : Ruling ℕ). then v (is b)) m ∙ ap (then (verdict (slots_fit P l l'))) n ∙ sym (verdict-append (slots_fit P l l') (slots_fit P s s'))
-      ∙ sym (verdict_yes 16 (eqb (length s) (length s')) (slots_fit P l l' ++ slots_fit P s s') (eq-eqb (length s) (length s') h))
+  states_slots R e h q =
+      q ∙ sym (verdict_yes 16 (eqb (length s) (length s')) (slots_fit P l l' ++ slots_fit P s s') (eq-eqb (length s) (length s') h))
       ∙ sym (verdict_yes 18 (beq g g') _ e)
 
-module _ (P : Program) (t : List ℕ) (h f : Held) (q : Bool) where
-  pub fit-flag : not q ≡ true → q ≡ beq h.flag f.flag → is 18 ≡ verdict (state_fits P (held t h) (held t f))
-  fit-flag e s = states_flag P h.flag f.flag _ _ _ _ (sym s ∙ not-true q e)
+module _ (P : Program) (t : List ℕ) (h f : Held) where
+  pub fit-flag : beq h.flag f.flag ≡ false → fail 18 ≡ verdict (state_fits P (held t h) (held t f))
+  fit-flag e = states_flag P h.flag f.flag _ _ _ _ e
 
-  pub fit_depth : not q ≡ false → q ≡ beq h.flag f.flag → (h.depth ≡ f.depth → ⊥) → is 16 ≡ verdict (state_fits P (held t h) (held t f))
-  fit_depth e s n =
-      states_depth P h.flag f.flag _ _ _ _ (sym s ∙ not-false q e)
-      (λ z. n (sym (length-stack t (h.at + 32) h.depth) ∙ z ∙ length-stack t (f.at + 32) f.depth))
+  module _ (e : beq h.flag f.flag ≡ true) where
+    pub fit_depth : (h.depth ≡ f.depth → ⊥) → fail 16 ≡ verdict (state_fits P (held t h) (held t f))
+    fit_depth n =
+        states_depth P h.flag f.flag _ _ _ _ e
+        (λ z. n (sym (length-stack t (h.at + 32) h.depth) ∙ z ∙ length-stack t (f.at + 32) f.depth))
 
-  pub fit-slots : (k : Key) (r a b : ℕ) → not q ≡ false → q ≡ beq h.flag f.flag → h.depth ≡ f.depth → is r ≡ then (is a) (is b)
-      → is a ≡ verdict (slots_fit P (veil false k (locals_at t h.at h.locals)) (locals_at t f.at f.locals))
-      → is b ≡ verdict (slots_fit P (stack_at t (h.at + 32) f.depth) (stack_at t (f.at + 32) f.depth))
-      → is r ≡ verdict (state_fits P (held t h) (held t f))
-  fit-slots k r a b e s d w m n =
-      states_slots P h.flag f.flag _ _ _ _ r a b (sym s ∙ not-false q e)
-      (length-stack t (h.at + 32) h.depth ∙ d ∙ sym (length-stack t (f.at + 32) f.depth)) w
-      (m ∙ ap (λ (l : List Ty). verdict (slots_fit P l (locals_at t f.at f.locals))) (veil_no k (locals_at t h.at h.locals)))
-      (n ∙ ap (λ (i : ℕ). verdict (slots_fit P (stack_at t (h.at + 32) i) (stack_at t (f.at + 32) f.depth))) (sym d))
+    module _ (d : h.depth ≡ f.depth) (k : Key) where
+      shown : (A : Ruling ℕ) → A ≡ verdict (slots_fit P (veil false k (locals_at t h.at h.locals)) (locals_at t f.at f.locals))
+          → A ≡ verdict (slots_fit P (locals_at t h.at h.locals) (locals_at t f.at f.locals))
+      shown A m = m ∙ ap (λ (l : List Ty). verdict (slots_fit P l (locals_at t f.at f.locals))) (veil_no k (locals_at t h.at h.locals))
+
+      as_deep : length (stack_at t (h.at + 32) h.depth) ≡ length (stack_at t (f.at + 32) f.depth)
+      as_deep = length-stack t (h.at + 32) h.depth ∙ d ∙ sym (length-stack t (f.at + 32) f.depth)
+
+      pub fit-slots : (R : Ruling ℕ) → pass ≡ verdict (slots_fit P (veil false k (locals_at t h.at h.locals)) (locals_at t f.at f.locals))
+          → R ≡ verdict (slots_fit P (stack_at t (h.at + 32) f.depth) (stack_at t (f.at + 32) f.depth))
+          → R ≡ verdict (state_fits P (held t h) (held t f))
+      fit-slots R m n =
+          states_slots P h.flag f.flag _ _ _ _ R e as_deep
+          (claims_on R _ _ (shown pass m) (n ∙ ap (λ (i : ℕ). verdict (slots_fit P (stack_at t (h.at + 32) i) (stack_at t (f.at + 32) f.depth))) (sym d)))
+
+      pub fit_no_slot : {E : Type 0} (n : E → ℕ) (r : Result (Unit {0}) E) (z : E) → IsErrAnd r (λ y. y ≡ z)
+          → fail (n z) ≡ verdict (slots_fit P (veil false k (locals_at t h.at h.locals)) (locals_at t f.at f.locals))
+          → ruled n r ≡ verdict (state_fits P (held t h) (held t f))
+      fit_no_slot n r z p m = states_slots P h.flag f.flag _ _ _ _ _ e as_deep (claims_off n r z p _ _ (shown (fail (n z)) m))
 
 -- what a handler gets: u alone on the stack
 module _ (P : Program) (t : List ℕ) (l : List Ty) (u : Ty) (f : Held) where
-  pub caught-flag : f.flag ≡ true → is 18 ≡ verdict (state_fits P (state false l (u ∷ [])) (held t f))
+  pub caught-flag : f.flag ≡ true → fail 18 ≡ verdict (state_fits P (state false l (u ∷ [])) (held t f))
   caught-flag e = states_flag P false f.flag _ _ _ _ (rw e)
 
-  pub caught_depth : f.flag ≡ false → (f.depth ≡ 1 → ⊥) → is 16 ≡ verdict (state_fits P (state false l (u ∷ [])) (held t f))
+  pub caught_depth : f.flag ≡ false → (f.depth ≡ 1 → ⊥) → fail 16 ≡ verdict (state_fits P (state false l (u ∷ [])) (held t f))
   caught_depth e n = states_depth P false f.flag _ _ _ _ (rw e) (λ z. n (sym (z ∙ length-stack t (f.at + 32) f.depth)))
 
   one-operand : f.depth ≡ 1 → stack_at t (f.at + 32) f.depth ≡ operand 0 (stack_at t (f.at + 32) f.depth) ∷ []
   unfolding stack_at
   one-operand e = rw e
 
-  module _ (a v : ℕ) (q : Bool) (e : f.flag ≡ false) (d : f.depth ≡ 1) (m : is a ≡ verdict (slots_fit P l (locals_at t f.at f.locals)))
-      (o : type_of v ≡ operand 0 (stack_at t (f.at + 32) f.depth)) (s : q ≡ fits P u (type_of v)) where
-    alone : (r b : ℕ) → is r ≡ then (is a) (is b) → is b ≡ verdict (claim 16 (fits P u (type_of v)) ∷ [])
-        → is r ≡ verdict (state_fits P (state false l (u ∷ [])) (held t f))
+  module _ (e : f.flag ≡ false) (d : f.depth ≡ 1) where
+    pub caught_yes : (R : Ruling ℕ) (v : ℕ) (q : Bool) → pass ≡ verdict (slots_fit P l (locals_at t f.at f.locals))
+        → type_of v ≡ operand 0 (stack_at t (f.at + 32) f.depth) → q ≡ fits P u (type_of v) → R ≡ verdict (claim 16 q ∷ [])
+        → R ≡ verdict (state_fits P (state false l (u ∷ [])) (held t f))
     unfolding slots_fit
-    alone r b w n =
-        states_slots P false f.flag _ _ _ _ r a b (rw e) (sym (length-stack t (f.at + 32) f.depth ∙ d)) w m
-        (n ∙ ap (λ (y : Ty). verdict (claim 16 (fits P u y) ∷ [])) o ∙ ap (λ (y : List Ty). verdict (slots_fit P (u ∷ []) y)) (sym (one-operand d)))
+    caught_yes R v q m o s w =
+        states_slots P false f.flag _ _ _ _ R (rw e) (sym (length-stack t (f.at + 32) f.depth ∙ d))
+        (claims_on R _ _ m (w ∙ ap (λ (b : Bool). verdict (claim 16 b ∷ [])) (s ∙ ap (fits P u) o)
+        ∙ ap (λ (y : List Ty). verdict (slots_fit P (u ∷ []) y)) (sym (one-operand d))))
 
-    pub caught_yes : q ≡ true → is a ≡ verdict (state_fits P (state false l (u ∷ [])) (held t f))
-    caught_yes y = alone a 0 (sym (then_pass (is a)) ∙ ap (then (is a)) (sym (is_zero 0 refl))) (claim_yes 16 _ (sym s ∙ y))
-
-    pub caught_no : (r : ℕ) → q ≡ false → is r ≡ then (is a) (is 16) → is r ≡ verdict (state_fits P (state false l (u ∷ [])) (held t f))
-    caught_no r y w = alone r 16 w (claim_no 16 _ (sym s ∙ y) refl)
+    pub caught_no : {E : Type 0} (n : E → ℕ) (r : Result (Unit {0}) E) (z : E) → IsErrAnd r (λ y. y ≡ z)
+        → fail (n z) ≡ verdict (slots_fit P l (locals_at t f.at f.locals)) → ruled n r ≡ verdict (state_fits P (state false l (u ∷ [])) (held t f))
+    caught_no n r z p m =
+        states_slots P false f.flag _ _ _ _ _ (rw e) (sym (length-stack t (f.at + 32) f.depth ∙ d)) (claims_off n r z p _ _ m)
 
 -- a test on what a call gave
 pub fit_via : (P : Program) (a : ℕ) (t u : Ty) (q : Bool) → q ≡ fits P (type_of a) u → type_of a ≡ t → q ≡ fits P t u
 fit_via P a t u q e h = e ∙ ap (λ (y : Ty). fits P y u) h
 
 module _ (n : ℕ) (q b : Bool) where
-  pub claim_by : q ≡ true → q ≡ b → is 0 ≡ verdict (claim n b ∷ [])
-  claim_by e s = claim_yes n b (sym s ∙ e)
+  pub claim_via : (R : Ruling ℕ) → R ≡ verdict (claim n q ∷ []) → q ≡ b → R ≡ verdict (claim n b ∷ [])
+  claim_via R h e = h ∙ ap (λ (c : Bool). verdict (claim n c ∷ [])) e
 
-  pub claim_not : q ≡ false → q ≡ b → eqb n 0 ≡ false → is n ≡ verdict (claim n b ∷ [])
-  claim_not e s z = claim_no n b (sym s ∙ e) z
+pub ruleset states = (fit-flag, fit_depth, fit-slots, fit_no_slot, caught-flag, caught_depth, caught_yes, caught_no)
 
-pub ruleset states = (fit-flag, fit_depth, fit-slots, caught-flag, caught_depth, caught_yes, caught_no)
-
-pub ruleset leaves = (locals_uneven, locals_even, fit_via, claim_by, claim_not, veil_on, veil_off, swap_yes, swap_no, claim_yes, claim_no, pos_eqb, room_none, room_no, room_yes, need_yes, need_no, peek_at, peek_none, local-at, local_none)
+pub ruleset leaves = (locals_uneven, locals_even, fit_via, claim_via, veil_on, veil_off, swap_yes, swap_no, claim_yes, claim_no, room_none, room_no, room_yes, need_yes, need_no, peek_at, peek_none, local-at, local_none)
 
 pub ruleset turns = (locals_more, locals_no, locals_end, operands_more, operands_no, operands_end, copy_hit, copy_more, copy_end)

@@ -1,10 +1,12 @@
 -- A state in words: 32 of locals, then the operands, a word each; flag and depth stand beside it.
-use Rattle.std.specs.Prelude.{ℕ, zero, suc, ◌+◌, ◌*◌, ◌/◌, ◌<◌, ◌≤◌, ◌≡◌, Bool, cond, List, [], ◌∷◌, ◌⊎◌, length, take, drop, set}
+use Rattle.std.specs.Prelude.{ℕ, zero, suc, ◌+◌, ◌*◌, ◌/◌, ◌<◌, ◌≤◌, ◌≡◌, Option, Some, None, Bool, cond, List, [], ◌∷◌, ◌⊎◌, length, take, drop, set}
 use Rattle.kit.specs.Words.{word}
-use Rattle.rules.specs.Types.{Key, Ty, top, is_uninit}
+use Rattle.rules.specs.Types.{Key, self, Ty, top, is_uninit}
+use Rattle.rules.specs.Rule.{key_of}
 use Rattle.rules.specs.States.{State, state, replace_all}
 use Rattle.rules.specs.TypeWords.{type_of}
 use Rattle.rules.specs.declared.slots.Held.{Held}
+use Rattle.rules.specs.declared.types.Ty as code
 
 unfoldable pub slot : List ℕ → ℕ → Ty
 slot t i = type_of (word t i)
@@ -79,6 +81,11 @@ veil1 b k t = cond b (swap1 k top t) t
 unfoldable pub veil : Bool → Key → List Ty → List Ty
 veil b k [] = []
 veil b k (t ∷ ts) = veil1 b k t ∷ veil b k ts
+
+-- the object to hide, where there is one
+abbrev pub hidden_key : Option code.Ty → Key
+hidden_key None = self
+hidden_key (Some w) = key_of (type_of w.word)
 
 -- words of the m from x on swapped, all others as they were
 pub record Swapped (k : Key) (v : Ty) (t u : List ℕ) (x m : ℕ) : Type 0 where

@@ -1,12 +1,9 @@
 -- All that is asked of one instruction, as the code follows it: operands, handlers, branches; and that it is the meaning's. Assumes nothing.
-use Prim.Native.Nat.{ℕ, zero, suc, ◌+◌, ◌*◌, ◌%◌, ◌<◌, ◌≤◌}
 use Rattle.std.specs.Prelude.{◌≡◌, Bool, true, false, leb, length}
-use Rattle.std.proofs.Math.Path.{refl, sym, ap}
-use Rattle.std.proofs.Common.{◌∙◌, arith, leb-true}
-use mathlib.Core.List.{List, [], ◌∷◌, ◌++◌, append-nil}
+use Rattle.std.proofs.Common.{◌∙◌, arith, leb-true, ℕ, zero, suc, ◌+◌, ◌*◌, ◌%◌, ◌<◌, ◌≤◌, List, [], ◌∷◌, ◌++◌, append-nil, refl, sym, ap}
 use Rattle.kit.specs.Bools.{T_true}
 use Rattle.kit.specs.Words.{word}
-use Rattle.kit.specs.Claims.{Claim, claim, Ruling, is, verdict, then, verdict-append, is_zero, is_not, pass_then, fail_then, nothing, pass_all, all_split}
+use Rattle.kit.specs.Claims.{Claim, claim, Ruling, pass, fail, verdict, then, verdict-append, pass_then, fail_then, none_claimed, pass_all, all_split}
 use Rattle.classfiles.specs.Members.{Handler}
 use Rattle.reader.specs.Program.{Program, Method}
 use Rattle.rules.specs.Instruction.{targets, falls}
@@ -143,22 +140,22 @@ pub falls_form : (q : Bool) (i i' : code.Instr) → i ≡ i' → q ≡ falls' i'
 unfolding falls_of
 falls_form q i i' e h = rw e h
 
-module _ (L : Program) (fs : List Frame) (S : State) (r : ℕ) where
-  pub jump_form : (i i' : code.Instr) → i ≡ i' → is r ≡ verdict (branch_claims L fs S (targets' i')) → is r ≡ verdict (branch_claims L fs S (targets_of i))
+pub no_jump : (L : Program) (fs : List Frame) (S : State) → pass ≡ verdict (branch_claims L fs S [])
+unfolding branch_claims
+no_jump L fs S = none_claimed
+
+module _ (L : Program) (fs : List Frame) (S : State) (R : Ruling ℕ) where
+  pub jump_form : (i i' : code.Instr) → i ≡ i' → R ≡ verdict (branch_claims L fs S (targets' i')) → R ≡ verdict (branch_claims L fs S (targets_of i))
   unfolding targets_of
   jump_form i i' e h = rw e h
 
-  pub no_jump : r ≡ 0 → is r ≡ verdict (branch_claims L fs S [])
-  unfolding branch_claims
-  no_jump e = nothing r e
-
-  one_jump : (b : Branch) (o p : ℕ) → is r ≡ verdict (into_frame L S (frame_at fs o)) → o ≡ p → p ∷ [] ≡ targets (branch_of b) → is r ≡ verdict (branch_claims L fs S (targets (branch_of b)))
+  one_jump : (b : Branch) (o p : ℕ) → R ≡ verdict (into_frame L S (frame_at fs o)) → o ≡ p → p ∷ [] ≡ targets (branch_of b) → R ≡ verdict (branch_claims L fs S (targets (branch_of b)))
   unfolding branch_claims
   one_jump b o p h e f =
       h ∙ ap (λ (z : ℕ). verdict (into_frame L S (frame_at fs z))) e ∙ ap (λ (cs : List (Claim ℕ)). verdict cs) (sym (append-nil (into_frame L S (frame_at fs p))))
       ∙ ap (λ (ts : List ℕ). verdict (branch_claims L fs S ts)) f
 
-  pub jump_branch : (i : code.Instr) (b : Branch) (o p : ℕ) → i ≡ Jump b → is r ≡ verdict (into_frame L S (frame_at fs o)) → o ≡ p → p ∷ [] ≡ targets (branch_of b) → is r ≡ verdict (branch_claims L fs S (targets_of i))
+  pub jump_branch : (i : code.Instr) (b : Branch) (o p : ℕ) → i ≡ Jump b → R ≡ verdict (into_frame L S (frame_at fs o)) → o ≡ p → p ∷ [] ≡ targets (branch_of b) → R ≡ verdict (branch_claims L fs S (targets_of i))
   jump_branch i b o p e h f g = jump_form i (Jump b) e (one_jump b o p h f g)
 
 -- ---- the whole of one instruction
@@ -176,31 +173,31 @@ module _ (L : Program) (catch_of : ℕ → ℕ) (fs : List Frame) (hs : List Han
       verdict-append (instr_claims L most F o i S) _
       ∙ ap (then (verdict (instr_claims L most F o i S))) (verdict-append (handlers_by L catch_of fs o (flag S) (seen_by S) hs) (branch_claims L fs (instr_after F o i S) (targets_of i)))
 
-  module _ (S : State) (a : ℕ) (p : is a ≡ verdict (instr_claims L most F o i S)) where
-    pub step_ask : (a ≡ 0 → ⊥) → is a ≡ verdict (step_by S)
-    step_ask z = is_not a z ∙ sym (whole S ∙ fail_then _ _ a (sym p ∙ is_not a z))
+  module _ (S : State) where
+    pub step_ask : (k : ℕ) → fail k ≡ verdict (instr_claims L most F o i S) → fail k ≡ verdict (step_by S)
+    step_ask k p = sym (whole S ∙ fail_then _ _ k (sym p))
 
-    module _ (z : a ≡ 0) (b : ℕ) (q : is b ≡ verdict (handlers_by L catch_of fs o (flag S) (seen_by S) hs)) where
-      pub step_hand : (b ≡ 0 → ⊥) → is b ≡ verdict (step_by S)
-      step_hand y = is_not b y ∙ sym (whole S ∙ pass_then _ _ (sym p ∙ is_zero a z) ∙ fail_then _ _ b (sym q ∙ is_not b y))
+    module _ (p : pass ≡ verdict (instr_claims L most F o i S)) where
+      pub step_hand : (k : ℕ) → fail k ≡ verdict (handlers_by L catch_of fs o (flag S) (seen_by S) hs) → fail k ≡ verdict (step_by S)
+      step_hand k q = sym (whole S ∙ pass_then _ _ (sym p) ∙ fail_then _ _ k (sym q))
 
-      pub step_jump : b ≡ 0 → (e : ℕ) → is e ≡ verdict (branch_claims L fs (instr_after F o i S) (targets_of i)) → is e ≡ verdict (step_by S)
-      step_jump y e r = r ∙ sym (whole S ∙ pass_then _ _ (sym p ∙ is_zero a z) ∙ pass_then _ _ (sym q ∙ is_zero b y))
+      pub step_jump : (R : Ruling ℕ) → pass ≡ verdict (handlers_by L catch_of fs o (flag S) (seen_by S) hs)
+          → R ≡ verdict (branch_claims L fs (instr_after F o i S) (targets_of i)) → R ≡ verdict (step_by S)
+      step_jump R q r = r ∙ sym (whole S ∙ pass_then _ _ (sym p) ∙ pass_then _ _ (sym q))
 
--- what the handlers see, by what the code peeked
-pub hand_via : (L : Program) (catch_of : ℕ → ℕ) (fs : List Frame) (hs : List Handler) (o : ℕ) (g : Bool) (l s : List Ty) (F : Facts) (i : code.Instr) (b : ℕ) (hide : Bool) (u : Ty) (k : ℕ)
-    → is b ≡ verdict (handlers_by L catch_of fs o g (veil hide (key_of u) l) hs) → hide ≡ hides i → u ≡ operand k s → k ≡ length F.params
-    → is b ≡ verdict (handlers_by L catch_of fs o g (veil (hides i) (key_of (operand (length F.params) s)) l) hs)
-hand_via L catch_of fs hs o g l s F i b hide u k h e f d =
-    h ∙ ap (λ (q : Bool). verdict (handlers_by L catch_of fs o g (veil q (key_of u) l) hs)) e
-    ∙ ap (λ (v : Ty). verdict (handlers_by L catch_of fs o g (veil (hides i) (key_of v) l) hs)) (f ∙ ap (λ (j : ℕ). operand j s) d)
+-- what the handlers see, by what the code found to hide
+pub hand_via : (L : Program) (catch_of : ℕ → ℕ) (fs : List Frame) (hs : List Handler) (o : ℕ) (g : Bool) (l m s : List Ty) (F : Facts) (i : code.Instr) (R : Ruling ℕ) (k : ℕ)
+    → R ≡ verdict (handlers_by L catch_of fs o g m hs) → m ≡ veil (hides i) (key_of (operand k s)) l → k ≡ length F.params
+    → R ≡ verdict (handlers_by L catch_of fs o g (veil (hides i) (key_of (operand (length F.params) s)) l) hs)
+hand_via L catch_of fs hs o g l m s F i R k h e d =
+    h ∙ ap (λ (n : List Ty). verdict (handlers_by L catch_of fs o g n hs)) (e ∙ ap (λ (j : ℕ). veil (hides i) (key_of (operand j s)) l) d)
 
 -- the stack after has room
-room_after : (L : Program) (most : ℕ) (F : Facts) (o : ℕ) (i : code.Instr) (S : State) (a : ℕ) → is a ≡ verdict (instr_claims L most F o i S) → a ≡ 0
+room_after : (L : Program) (most : ℕ) (F : Facts) (o : ℕ) (i : code.Instr) (S : State) → pass ≡ verdict (instr_claims L most F o i S)
     → (T : State) → T ≡ instr_after F o i S → length (stack T) ≤ most
-room_after L most F o i (state g l s) a p z T e =
+room_after L most F o i (state g l s) p T e =
     let R = instr_rule L F o i (state g l s) in
-    let v = pass_all (operand_claims L most s R) (sym (claims_known L most F o i g l s) ∙ sym p ∙ is_zero a z) in
+    let v = pass_all (operand_claims L most s R) (sym (claims_known L most F o i g l s) ∙ sym p) in
     let last : List (Claim ℕ) = claim 15 (leb (length (stack R.after)) most) ∷ [] in
     let w = (all_split R.asks last (all_split (operands_fit L 0 R.takes s) (R.asks ++ last) v.1).1).1 in
     let x : length (stack T) ≡ length (stack R.after) = ap (λ (U : State). length (stack U)) (e ∙ after_known L F o i g l s) in
@@ -284,9 +281,9 @@ module _ (x : ℕ) (t u : List ℕ) (h : (j : ℕ) → j < x → word u j ≡ wo
   frames_outside f m l = frames_outside' f.locals f.at f.count m l
 
   -- what was asked of the state after is asked under the parents and frames before
-  pub jump_outside : (r a n : ℕ) (f : Rows) (S : State) (i : code.Instr) → a + n ≤ x → f.locals ≤ 32 → f.at + 68 * f.count ≤ x
-      → is r ≡ verdict (branch_claims (lineage u a n) (frames_of u f) S (targets_of i)) → (T : State) → S ≡ T → is r ≡ verdict (branch_claims (lineage t a n) (frames_of t f) T (targets_of i))
-  jump_outside r a n f S i l m k e T q =
+  pub jump_outside : (R : Ruling ℕ) (a n : ℕ) (f : Rows) (S : State) (i : code.Instr) → a + n ≤ x → f.locals ≤ 32 → f.at + 68 * f.count ≤ x
+      → R ≡ verdict (branch_claims (lineage u a n) (frames_of u f) S (targets_of i)) → (T : State) → S ≡ T → R ≡ verdict (branch_claims (lineage t a n) (frames_of t f) T (targets_of i))
+  jump_outside R a n f S i l m k e T q =
       e ∙ ap (λ (L : Program). verdict (branch_claims L (frames_of u f) S (targets_of i))) (lineage_outside a n l)
       ∙ ap (λ (fs : List Frame). verdict (branch_claims (lineage t a n) fs S (targets_of i))) (frames_outside f m k)
       ∙ ap (λ (U : State). verdict (branch_claims (lineage t a n) (frames_of t f) U (targets_of i))) q
@@ -300,10 +297,10 @@ pub record Going (h r : Held) : Type 0 where
 pub going_same : (h : Held) → h.depth ≤ 32 → Going h h
 going_same h l = record { at = refl; locals = refl; depth = l }
 
-pub going_on : (L : Program) (most : ℕ) (F : Facts) (o : ℕ) (i : code.Instr) (S : State) (a : ℕ) → is a ≡ verdict (instr_claims L most F o i S) → a ≡ 0 → most ≤ 32
+pub going_on : (L : Program) (most : ℕ) (F : Facts) (o : ℕ) (i : code.Instr) (S : State) → pass ≡ verdict (instr_claims L most F o i S) → most ≤ 32
     → (h r : Held) (u : List ℕ) → Kept h r → held u r ≡ instr_after F o i S → Going h r
-going_on L most F o i S a p z l h r u k e =
-    record { at = k.at; locals = k.locals; depth = omega (arith, room_after L most F o i S a p z (held u r) e, length-stack u (r.at + 32) r.depth) }
+going_on L most F o i S p l h r u k e =
+    record { at = k.at; locals = k.locals; depth = omega (arith, room_after L most F o i S p (held u r) e, length-stack u (r.at + 32) r.depth) }
 
 pub laid_outside : (x : ℕ) (t u : List ℕ) (f : Rows) → ((j : ℕ) → j < x → word u j ≡ word t j) → f.at + 68 * f.count ≤ x → length u ≡ length t → Laid t f → Laid u f
 laid_outside x t u f h l e p = record {

@@ -8,7 +8,9 @@ ghost use Rattle.rules.specs.ResolvedWords.{field_in, method_in, resolved_of, wo
 ghost use Rattle.rules.specs.Decoding.{Refers, CallsBy, Made, Named, Decoded, DecodedAt};
 
 use crate::codes;
-use crate::instruction::{Branch, Call, Callee, Field, Instr, Leave, Local, Plain, Stack};
+use crate::instruction::{
+    Branch, Call, Callee, Division, Field, Instr, Leave, Local, Op, Plain, Stack, Test,
+};
 use crate::types::Ty;
 use texts::items;
 
@@ -55,6 +57,7 @@ pub fn target(x: Bytes) -> u16
     ((x.at % 65536 + both(x)) % 65536) as u16
 }
 
+#[tactic(auto, unfolding(crate::specs::Decoding::made, crate::specs::Opcodes::row_of, crate::specs::Opcodes::row_in, crate::specs::Opcodes::rows))]
 fn constant(x: Bytes) -> Instr
     requires { x.op < 0x12 }
     ensures { Made x result }
@@ -76,6 +79,7 @@ fn constant(x: Bytes) -> Instr
     }
 }
 
+#[tactic(auto, unfolding(crate::specs::Decoding::made, crate::specs::Opcodes::row_of, crate::specs::Opcodes::row_in, crate::specs::Opcodes::rows))]
 fn load(x: Bytes) -> Instr
     requires { (0x13 ≤ x.op) × (x.op < 0x36) }
     ensures { Made x result }
@@ -98,6 +102,7 @@ fn load(x: Bytes) -> Instr
     }
 }
 
+#[tactic(auto, unfolding(crate::specs::Decoding::made, crate::specs::Opcodes::row_of, crate::specs::Opcodes::row_in, crate::specs::Opcodes::rows))]
 fn store(x: Bytes) -> Instr
     requires { (0x36 ≤ x.op) × (x.op < 0x57) }
     ensures { Made x result }
@@ -120,6 +125,7 @@ fn store(x: Bytes) -> Instr
     }
 }
 
+#[tactic(auto, unfolding(crate::specs::Decoding::made, crate::specs::Opcodes::row_of, crate::specs::Opcodes::row_in, crate::specs::Opcodes::rows))]
 fn on_stack(x: Bytes) -> Instr
     requires { (0x57 ≤ x.op) × (x.op < 0x60) }
     ensures { Made x result }
@@ -134,29 +140,31 @@ fn on_stack(x: Bytes) -> Instr
     }
 }
 
+#[tactic(auto, unfolding(crate::specs::Decoding::made, crate::specs::Opcodes::row_of, crate::specs::Opcodes::row_in, crate::specs::Opcodes::rows))]
 fn arithmetic(x: Bytes) -> Instr
     requires { (0x60 ≤ x.op) × (x.op < 0x99) }
     ensures { Made x result }
 {
     let op = x.op;
     match op {
-        0x60 => Instr::Simple(Plain::Ibin(0)),
-        0x64 => Instr::Simple(Plain::Ibin(1)),
-        0x68 => Instr::Simple(Plain::Ibin(2)),
-        0x6c => Instr::Simple(Plain::Idiv(0)),
-        0x70 => Instr::Simple(Plain::Idiv(1)),
+        0x60 => Instr::Simple(Plain::Ibin(Op::Add)),
+        0x64 => Instr::Simple(Plain::Ibin(Op::Sub)),
+        0x68 => Instr::Simple(Plain::Ibin(Op::Mul)),
+        0x6c => Instr::Simple(Plain::Idiv(Division::Quotient)),
+        0x70 => Instr::Simple(Plain::Idiv(Division::Remainder)),
         0x74 => Instr::Simple(Plain::Ineg),
-        0x78 => Instr::Simple(Plain::Ibin(3)),
-        0x7a => Instr::Simple(Plain::Ibin(4)),
-        0x7c => Instr::Simple(Plain::Ibin(5)),
-        0x7e => Instr::Simple(Plain::Ibin(6)),
-        0x80 => Instr::Simple(Plain::Ibin(7)),
-        0x82 => Instr::Simple(Plain::Ibin(8)),
+        0x78 => Instr::Simple(Plain::Ibin(Op::Shl)),
+        0x7a => Instr::Simple(Plain::Ibin(Op::Shr)),
+        0x7c => Instr::Simple(Plain::Ibin(Op::Ushr)),
+        0x7e => Instr::Simple(Plain::Ibin(Op::And)),
+        0x80 => Instr::Simple(Plain::Ibin(Op::Or)),
+        0x82 => Instr::Simple(Plain::Ibin(Op::Xor)),
         0x84 => Instr::OnLocal(Local::Iinc(x.first as u16, spread_byte(x.second))),
         _ => Instr::Illegal,
     }
 }
 
+#[tactic(auto, unfolding(crate::specs::Decoding::made, crate::specs::Opcodes::row_of, crate::specs::Opcodes::row_in, crate::specs::Opcodes::rows))]
 fn comparison(x: Bytes) -> Instr
     requires { (0x99 ≤ x.op) × (x.op < 0xa7) }
     ensures { Made x result }
@@ -164,24 +172,25 @@ fn comparison(x: Bytes) -> Instr
     let t = target(x);
     let op = x.op;
     match op {
-        0x99 => Instr::Jump(Branch::Ifint(0, t)),
-        0x9a => Instr::Jump(Branch::Ifint(1, t)),
-        0x9b => Instr::Jump(Branch::Ifint(2, t)),
-        0x9c => Instr::Jump(Branch::Ifint(3, t)),
-        0x9d => Instr::Jump(Branch::Ifint(4, t)),
-        0x9e => Instr::Jump(Branch::Ifint(5, t)),
-        0x9f => Instr::Jump(Branch::Ificmp(0, t)),
-        0xa0 => Instr::Jump(Branch::Ificmp(1, t)),
-        0xa1 => Instr::Jump(Branch::Ificmp(2, t)),
-        0xa2 => Instr::Jump(Branch::Ificmp(3, t)),
-        0xa3 => Instr::Jump(Branch::Ificmp(4, t)),
-        0xa4 => Instr::Jump(Branch::Ificmp(5, t)),
+        0x99 => Instr::Jump(Branch::Ifint(Test::Eq, t)),
+        0x9a => Instr::Jump(Branch::Ifint(Test::Ne, t)),
+        0x9b => Instr::Jump(Branch::Ifint(Test::Lt, t)),
+        0x9c => Instr::Jump(Branch::Ifint(Test::Ge, t)),
+        0x9d => Instr::Jump(Branch::Ifint(Test::Gt, t)),
+        0x9e => Instr::Jump(Branch::Ifint(Test::Le, t)),
+        0x9f => Instr::Jump(Branch::Ificmp(Test::Eq, t)),
+        0xa0 => Instr::Jump(Branch::Ificmp(Test::Ne, t)),
+        0xa1 => Instr::Jump(Branch::Ificmp(Test::Lt, t)),
+        0xa2 => Instr::Jump(Branch::Ificmp(Test::Ge, t)),
+        0xa3 => Instr::Jump(Branch::Ificmp(Test::Gt, t)),
+        0xa4 => Instr::Jump(Branch::Ificmp(Test::Le, t)),
         0xa5 => Instr::Jump(Branch::Ifacmp(true, t)),
         0xa6 => Instr::Jump(Branch::Ifacmp(false, t)),
         _ => Instr::Illegal,
     }
 }
 
+#[tactic(auto, unfolding(crate::specs::Decoding::made, crate::specs::Opcodes::row_of, crate::specs::Opcodes::row_in, crate::specs::Opcodes::rows))]
 fn leaving(x: Bytes) -> Instr
     requires { (0xa7 ≤ x.op) × (x.op < 0xb4) }
     ensures { Made x result }
@@ -264,6 +273,7 @@ fn number_of(s: &[u8], w: u32) -> Instr
     Instr::Unresolved
 }
 
+// This and the next differ in the form alone, as `cast` and `instance` do: a closure that makes it would need clauses longer than the twin.
 fn get_field(w: u32) -> Instr
     ensures { Refers (as_field getfield) w result }
 {
@@ -381,6 +391,7 @@ fn int_array(x: Bytes) -> Instr
 }
 
 // From 0xb4 on; w is the word of what the operand bytes name.
+#[tactic(auto, unfolding(crate::specs::Decoding::made, crate::specs::Opcodes::row_of, crate::specs::Opcodes::row_in, crate::specs::Opcodes::rows))]
 fn naming(x: Bytes, w: u32) -> Instr
     requires { 0xb4 ≤ x.op }
     ensures { Named x (x.first * 256 + x.second) w result }
@@ -433,9 +444,9 @@ pub fn instruction(s: &[u8], t: &[u8], c: usize, code: &[u8], o: usize) -> Instr
         t,
         c,
         Bytes {
-            op: op,
-            first: first,
-            second: second,
+            op,
+            first,
+            second,
             at: o,
         },
     )

@@ -1,13 +1,15 @@
 // What a form takes and leaves, and what is asked and done where nothing else counts.
 ghost use Rattle.std.specs.Prelude.{◌≡◌, ◌≤◌, length};
-ghost use Rattle.kit.specs.Claims.{is, verdict};
+ghost use Rattle.kit.specs.Claims.{ruled, verdict};
+ghost use Rattle.texts.specs.Faults.{number};
 ghost use Rattle.rules.specs.Ancestry.{lineage};
 ghost use Rattle.rules.specs.Slots.{operands_of, held, Placed, Roomy, Outside};
 ghost use Rattle.rules.specs.Forms.{takes_of, gives_of, plain_takes, plain_gives, branch_takes, asked, form_claims, turned, Kept};
 
 use crate::instruction::{Branch, Plain};
-use crate::slots::{Held, cut, first, fit_operand, need, put, room};
+use crate::slots::{Held, cut, fit_operand, need, put, room};
 use crate::types::{Kin, Ty};
+use texts::faults::Refusal;
 
 // The operands, top first; top stands for any.
 #[derive(Clone, Copy)]
@@ -16,12 +18,6 @@ pub enum Takes {
     One(Ty),
     Two(Ty, Ty),
     Three(Ty, Ty, Ty),
-}
-
-#[derive(Clone, Copy)]
-pub enum Gives {
-    Nothing,
-    Value(Ty),
 }
 
 pub fn count(k: Takes) -> usize
@@ -35,6 +31,7 @@ pub fn count(k: Takes) -> usize
     }
 }
 
+#[tactic(auto, using(crate::specs::Forms::shapes))]
 pub fn branch_takes(i: Branch) -> Takes
     ensures { takes_of result ≡ branch_takes i }
 {
@@ -47,6 +44,7 @@ pub fn branch_takes(i: Branch) -> Takes
     }
 }
 
+#[tactic(auto, using(crate::specs::Forms::shapes))]
 pub fn plain_takes(i: Plain) -> Takes
     ensures { takes_of result ≡ plain_takes i }
 {
@@ -69,74 +67,87 @@ pub fn plain_takes(i: Plain) -> Takes
     }
 }
 
-pub fn plain_gives(i: Plain) -> Gives
+#[tactic(auto, using(crate::specs::Forms::shapes))]
+pub fn plain_gives(i: Plain) -> Option<Ty>
     ensures { gives_of result ≡ plain_gives i }
 {
     match i {
-        Plain::Nop => Gives::Nothing,
-        Plain::Aconstnull => Gives::Value(Ty::null()),
-        Plain::Pop => Gives::Nothing,
-        Plain::Ineg => Gives::Value(Ty::int()),
-        Plain::Iaload => Gives::Value(Ty::int()),
-        Plain::Iastore => Gives::Nothing,
-        Plain::Aastore => Gives::Nothing,
-        Plain::Iconst(_) => Gives::Value(Ty::int()),
-        Plain::Ibin(_) => Gives::Value(Ty::int()),
-        Plain::Idiv(_) => Gives::Value(Ty::int()),
-        Plain::Newarray(a) => Gives::Value(a.as_array()),
-        Plain::Checkcast(a) => Gives::Value(a.as_reference()),
-        Plain::Instanceof(_) => Gives::Value(Ty::int()),
-        Plain::Getfield(f) => Gives::Value(f.of.described()),
-        Plain::Putfield(_) => Gives::Nothing,
+        Plain::Nop => None,
+        Plain::Aconstnull => Some(Ty::null()),
+        Plain::Pop => None,
+        Plain::Ineg => Some(Ty::int()),
+        Plain::Iaload => Some(Ty::int()),
+        Plain::Iastore => None,
+        Plain::Aastore => None,
+        Plain::Iconst(_) => Some(Ty::int()),
+        Plain::Ibin(_) => Some(Ty::int()),
+        Plain::Idiv(_) => Some(Ty::int()),
+        Plain::Newarray(a) => Some(a.as_array()),
+        Plain::Checkcast(a) => Some(a.as_reference()),
+        Plain::Instanceof(_) => Some(Ty::int()),
+        Plain::Getfield(f) => Some(f.of.described()),
+        Plain::Putfield(_) => None,
     }
 }
 
 // The operands are there and fit, from the top down.
-pub fn ask_takes(t: &[u8], kin: Kin, h: Held, k: Takes) -> u32
+pub fn ask_takes(t: &[u8], kin: Kin, h: Held, k: Takes) -> Result<(), Refusal>
     requires { Placed t.now h }
-    ensures { is result ≡ verdict (asked (lineage t.now kin.at kin.count) (operands_of t.now h) (takes_of k)) }
+    ensures { ruled number result ≡ verdict (asked (lineage t.now kin.at kin.count) (operands_of t.now h) (takes_of k)) }
 {
     match k {
-        Takes::Zero => 0,
-        Takes::One(a) => first(need(h, 1), fit_operand(t, kin, h, 0, a)),
-        Takes::Two(a, b) => first(
-            need(h, 2),
-            first(fit_operand(t, kin, h, 0, a), fit_operand(t, kin, h, 1, b)),
-        ),
-        Takes::Three(a, b, c) => first(
-            need(h, 3),
-            first(
-                fit_operand(t, kin, h, 0, a),
-                first(fit_operand(t, kin, h, 1, b), fit_operand(t, kin, h, 2, c)),
-            ),
-        ),
+        Takes::Zero => Ok(()),
+        Takes::One(a) => {
+            need(h, 1)?;
+            fit_operand(t, kin, h, 0, a)
+        }
+        Takes::Two(a, b) => {
+            need(h, 2)?;
+            fit_operand(t, kin, h, 0, a)?;
+            fit_operand(t, kin, h, 1, b)
+        }
+        Takes::Three(a, b, c) => {
+            need(h, 3)?;
+            fit_operand(t, kin, h, 0, a)?;
+            fit_operand(t, kin, h, 1, b)?;
+            fit_operand(t, kin, h, 2, c)
+        }
     }
 }
 
-pub fn given(g: Gives) -> usize
+// How many operands come.
+pub fn given(g: Option<Ty>) -> usize
     ensures { result ≡ length (gives_of g) }
 {
     match g {
-        Gives::Nothing => 0,
-        Gives::Value(_) => 1,
+        None => 0,
+        Some(_) => 1,
     }
 }
 
 // All that is asked of a form that takes k and leaves g.
-pub fn ask_form(t: &[u8], kin: Kin, h: Held, k: Takes, g: Gives, most: usize) -> u32
+pub fn ask_form(
+    t: &[u8],
+    kin: Kin,
+    h: Held,
+    k: Takes,
+    g: Option<Ty>,
+    most: usize,
+) -> Result<(), Refusal>
     requires { Placed t.now h }
-    ensures { is result ≡ verdict (form_claims (lineage t.now kin.at kin.count) most (takes_of k) (gives_of g) (held t.now h)) }
+    ensures { ruled number result ≡ verdict (form_claims (lineage t.now kin.at kin.count) most (takes_of k) (gives_of g) (held t.now h)) }
 {
-    first(ask_takes(t, kin, h, k), room(h, count(k), given(g), most))
+    ask_takes(t, kin, h, k)?;
+    room(h, count(k), given(g), most)
 }
 
 // k operands go, g comes.
-pub fn leave_form(t: &mut [u8], h: Held, k: usize, g: Gives) -> Held
+pub fn leave_form(t: &mut [u8], h: Held, k: usize, g: Option<Ty>) -> Held
     requires { Roomy t.old h × (h.depth ≤ 32) }
     ensures { Kept h result × (held t.new result ≡ turned k (gives_of g) (held t.old h)) × Outside h.at t.old t.new }
 {
     match g {
-        Gives::Nothing => cut(h, k),
-        Gives::Value(w) => put(t, h, k, w),
+        None => cut(h, k),
+        Some(w) => put(t, h, k, w),
     }
 }

@@ -1,24 +1,25 @@
 // What a handler gets must fit its frame, for each entry of the exception table that covers an instruction.
-ghost use Rattle.std.specs.Prelude.{◌≡◌, ◌+◌, ◌^◌, ◌<◌, ◌≤◌, length};
-ghost use Rattle.kit.specs.Claims.{is, verdict};
+ghost use Rattle.std.specs.Prelude.{is_some, ◌≡◌, ◌+◌, ◌^◌, ◌<◌, ◌≤◌, length};
+ghost use Rattle.kit.specs.Claims.{ruled, verdict};
+ghost use Rattle.texts.specs.Faults.{number};
 ghost use Rattle.texts.specs.Reading.{u2_at};
 ghost use Rattle.classfiles.specs.Attributes.{handlers_from};
 ghost use Rattle.reader.specs.BuiltIns.{first_class};
 ghost use Rattle.classfiles.specs.Descriptors.{cls};
 ghost use Rattle.rules.specs.Types.{ini};
-ghost use Rattle.rules.specs.Rule.{key_of};
 ghost use Rattle.rules.specs.Walk.{covers};
 ghost use Rattle.rules.specs.TypeWords.{type_of};
 ghost use Rattle.rules.specs.Ancestry.{lineage};
-ghost use Rattle.rules.specs.Slots.{locals_of, veil, Placed};
+ghost use Rattle.rules.specs.Slots.{locals_of, veil, hidden_key, Placed};
 ghost use Rattle.rules.specs.FrameRows.{frames_of, Laid};
 ghost use Rattle.rules.specs.Handlers.{entry_at, catch_in, handler_by, handlers_by};
 
 use crate::decode::named_word;
 use crate::frames::{Rows, into_handler};
 use crate::site::Site;
-use crate::slots::{Held, first, must};
+use crate::slots::{Held, must};
 use crate::types::{Kin, Ty};
+use texts::faults::Refusal;
 use texts::items::u2_at;
 
 // The class that catch_type i stands for: Throwable for 0, and past all classes where it names none.
@@ -65,7 +66,7 @@ fn covers(s: &[u8], q: usize, o: usize) -> bool
     false
 }
 
-// What the state h gives to the entry at q; copies of the key's object are hidden.
+// What the state h gives to the entry at q; copies of the hidden object count as top.
 fn one_handler(
     s: &[u8],
     t: &[u8],
@@ -73,23 +74,19 @@ fn one_handler(
     kin: Kin,
     f: Rows,
     h: Held,
-    hide: bool,
-    key: Ty,
+    hidden: Option<Ty>,
     q: usize,
     o: usize,
-) -> u32
+) -> Result<(), Refusal>
     requires { (x.classes ≤ 16) × Laid t.now f × Placed t.now h × (q ≤ 2 ^ 63 + 256) }
-    ensures { is result ≡ verdict (handler_by (lineage t.now kin.at kin.count) (catch_in t.now x.class (first_class + x.classes)) (frames_of t.now f) o h.flag (veil hide (key_of (type_of key.word)) (locals_of t.now h)) (entry_at s.now q)) }
+    ensures { ruled number result ≡ verdict (handler_by (lineage t.now kin.at kin.count) (catch_in t.now x.class (first_class + x.classes)) (frames_of t.now f) o h.flag (veil (is_some hidden) (hidden_key hidden) (locals_of t.now h)) (entry_at s.now q)) }
 {
-    if covers(s, q, o) {
-        let w = catch_type(t, x, u2_at(s, q + 6));
-        let target = u2_at(s, q + 4);
-        return first(
-            must(!h.flag, 18),
-            into_handler(t, kin, f, h, target, hide, key, w),
-        );
+    if !covers(s, q, o) {
+        return Ok(());
     }
-    0
+    must(!h.flag, Refusal::Construction)?;
+    let w = catch_type(t, x, u2_at(s, q + 6));
+    into_handler(t, kin, f, h, u2_at(s, q + 4), hidden, w)
 }
 
 // All entries of the method's table, in order.
@@ -100,22 +97,14 @@ pub fn all_handlers(
     kin: Kin,
     f: Rows,
     h: Held,
-    hide: bool,
-    key: Ty,
+    hidden: Option<Ty>,
     o: usize,
-) -> u32
+) -> Result<(), Refusal>
     requires { (x.classes ≤ 16) × Laid t.now f × Placed t.now h × (x.table ≤ 2 ^ 63) × (x.entries ≤ 32) }
-    ensures { is result ≡ verdict (handlers_by (lineage t.now kin.at kin.count) (catch_in t.now x.class (first_class + x.classes)) (frames_of t.now f) o h.flag (veil hide (key_of (type_of key.word)) (locals_of t.now h)) (handlers_from s.now x.entries x.table)) }
+    ensures { ruled number result ≡ verdict (handlers_by (lineage t.now kin.at kin.count) (catch_in t.now x.class (first_class + x.classes)) (frames_of t.now f) o h.flag (veil (is_some hidden) (hidden_key hidden) (locals_of t.now h)) (handlers_from s.now x.entries x.table)) }
 {
-    let mut q = x.table;
-    let mut left = x.entries;
-    while 0 < left {
-        let r = one_handler(s, t, x, kin, f, h, hide, key, q, o);
-        if r != 0 {
-            return r;
-        }
-        q += 8;
-        left -= 1;
+    for i in 0..x.entries {
+        one_handler(s, t, x, kin, f, h, hidden, x.table + 8 * i, o)?;
     }
-    0
+    Ok(())
 }

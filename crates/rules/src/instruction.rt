@@ -1,4 +1,7 @@
 // Instructions by their forms, names resolved to numbers, in groups by what they do to a state.
+ghost use Rattle.std.specs.Prelude.{◌≡◌};
+ghost use Rattle.rules.specs.Known.{callee_in};
+
 use crate::types::Ty;
 
 // A field: the class that the reference names, the class that has it, its place among an object's fields, its type.
@@ -18,6 +21,37 @@ pub struct Callee {
     pub index: u16,
 }
 
+// What two integers are put together by.
+#[derive(Clone, Copy)]
+pub enum Op {
+    Add,
+    Sub,
+    Mul,
+    Shl,
+    Shr,
+    Ushr,
+    And,
+    Or,
+    Xor,
+}
+
+#[derive(Clone, Copy)]
+pub enum Division {
+    Quotient,
+    Remainder,
+}
+
+// What a branch asks of two integers, or of one and 0.
+#[derive(Clone, Copy)]
+pub enum Test {
+    Eq,
+    Ne,
+    Lt,
+    Ge,
+    Gt,
+    Le,
+}
+
 // What is taken and left is known from the form alone. Newarray holds the array's type.
 #[derive(Clone, Copy)]
 pub enum Plain {
@@ -29,8 +63,8 @@ pub enum Plain {
     Iastore,
     Aastore,
     Iconst(u32),
-    Ibin(u8),
-    Idiv(u8),
+    Ibin(Op),
+    Idiv(Division),
     Newarray(Ty),
     Checkcast(Ty),
     Instanceof(Ty),
@@ -38,12 +72,12 @@ pub enum Plain {
     Putfield(Field),
 }
 
-// The test's number and the target; of two references or one with null, whether equal ones branch.
+// The test and the target; of two references or one with null, whether equal ones branch.
 #[derive(Clone, Copy)]
 pub enum Branch {
     Goto(u16),
-    Ifint(u8, u16),
-    Ificmp(u8, u16),
+    Ifint(Test, u16),
+    Ificmp(Test, u16),
     Ifacmp(bool, u16),
     Ifnull(bool, u16),
 }
@@ -80,6 +114,19 @@ pub enum Call {
     Virtual(Callee),
     Special(Callee),
     Static(Callee),
+}
+
+impl Call {
+    // The method, however it is called.
+    pub fn callee(self) -> Callee
+        ensures { result ≡ callee_in self }
+    {
+        match self {
+            Call::Virtual(m) => m,
+            Call::Special(m) => m,
+            Call::Static(m) => m,
+        }
+    }
 }
 
 #[derive(Clone, Copy)]

@@ -1,4 +1,5 @@
-// The opcode table: for each opcode byte its length, the fixed operands it takes and those it leaves; 0, 0, 0 where it is not listed.
+// The opcode table: for each opcode byte its length, the fixed operands it takes and those it leaves; 0, 0, 0 where it is not listed. It
+// stays one table of numbers, as it is written down and as `OpcodeTable` holds it against the ranges; each column has a function of its name.
 ghost use Rattle.std.specs.Prelude.{◌≡◌, ◌<◌};
 ghost use Rattle.rules.specs.Opcodes.{row_of, length_of, taken_of, left_of, size_at};
 ghost use Rattle.rules.specs.OpcodeSizes.{packed_at};
@@ -59,6 +60,7 @@ pub fn left(op: usize) -> u8
 
 // The lengths of the sixteen opcodes from 16 k on, two bits each. The table itself is built anew where it is read, which costs more than the
 // rest of a look-up.
+#[tactic(auto, unfolding(crate::specs::OpcodeSizes::packed_at, crate::specs::OpcodeSizes::packs))]
 fn packed(k: usize) -> u32
     ensures { result ≡ packed_at k }
 {

@@ -1,15 +1,16 @@
 // A state in lent words: what each function does to the state that the words mean.
-ghost use Rattle.std.specs.Prelude.{◌≡◌, false, [], ◌∷◌, ◌++◌, ◌+◌, ◌-◌, ◌<◌, ◌≤◌, ◌/◌, leb, length, get_or, drop};
-ghost use Rattle.std.specs.Bool.{beq};
-ghost use Rattle.kit.specs.Claims.{is, then, verdict, claim};
+ghost use Rattle.std.specs.Prelude.{is_some, ◌≡◌, false, [], ◌∷◌, ◌+◌, ◌-◌, ◌<◌, ◌≤◌, ◌/◌, leb, length, get_or};
+ghost use Rattle.kit.specs.Claims.{ruled, verdict, claim};
+ghost use Rattle.texts.specs.Faults.{number};
 ghost use Rattle.rules.specs.Types.{top, fits};
 ghost use Rattle.rules.specs.Rule.{key_of};
 ghost use Rattle.rules.specs.States.{state, operand, no_copy, slots_fit, state_fits};
 ghost use Rattle.rules.specs.TypeWords.{type_of};
 ghost use Rattle.rules.specs.Ancestry.{lineage};
-ghost use Rattle.rules.specs.Slots.{locals_at, stack_at, operands_of, locals_of, held, Placed, Roomy, Outside, Moved, pushed, dropped, stored, swap1, locals_swapped, all_swapped, veil1, veil, Swapped};
+ghost use Rattle.rules.specs.Slots.{locals_at, stack_at, operands_of, locals_of, held, Placed, Roomy, Outside, Moved, pushed, stored, swap1, locals_swapped, all_swapped, veil1, veil, hidden_key, Swapped};
 
 use crate::types::{self, Kin, Ty};
+use texts::faults::Refusal;
 
 // Where a state stands: its first word, how many locals and operands it has, and its flag.
 #[derive(Clone, Copy)]
@@ -20,78 +21,54 @@ pub struct Held {
     pub flag: bool,
 }
 
-// ---- Numbers of verdicts, 0 for none.
-
-// The first refusal.
-pub fn first(a: u32, b: u32) -> u32
-    ensures { is result ≡ then (is a) (is b) }
-{
-    if a == 0 {
-        return b;
-    }
-    a
-}
-
-// A demand under the number n.
-pub fn must(ok: bool, n: u32) -> u32
-    requires { 0 < n }
-    ensures { is result ≡ verdict (claim n ok ∷ []) }
+// A demand: where it is not met, that refusal.
+#[tactic(auto, using(crate::specs::SlotLaws::leaves))]
+pub fn must(ok: bool, refusal: Refusal) -> Result<(), Refusal>
+    ensures { ruled number result ≡ verdict (claim (number refusal) ok ∷ []) }
 {
     if ok {
-        return 0;
+        return Ok(());
     }
-    n
+    Err(refusal)
 }
 
 // ---- Depths.
 
-// d - k, or 0.
-fn less(d: usize, k: usize) -> usize
-    ensures { result ≡ d - k }
-{
-    if d < k {
-        return 0;
-    }
-    d - k
-}
-
 // There are k operands.
-pub fn need(h: Held, k: usize) -> u32
-    ensures { is result ≡ verdict (claim 15 (leb k h.depth) ∷ []) }
+#[tactic(auto, using(crate::specs::SlotLaws::leaves))]
+pub fn need(h: Held, k: usize) -> Result<(), Refusal>
+    ensures { ruled number result ≡ verdict (claim 15 (leb k h.depth) ∷ []) }
 {
     if k <= h.depth {
-        return 0;
+        return Ok(());
     }
-    15
+    Err(Refusal::Depth)
 }
 
 // Where k operands go, p fit on the stack.
-pub fn room(h: Held, k: usize, p: usize, most: usize) -> u32
-    ensures { is result ≡ verdict (claim 15 (leb (p + (h.depth - k)) most) ∷ []) }
+#[tactic(auto, using(crate::specs::SlotLaws::leaves))]
+pub fn room(h: Held, k: usize, p: usize, most: usize) -> Result<(), Refusal>
+    ensures { ruled number result ≡ verdict (claim 15 (leb (p + (h.depth - k)) most) ∷ []) }
 {
     if most < p {
-        return 15;
+        return Err(Refusal::Depth);
     }
-    if most - p < less(h.depth, k) {
-        return 15;
+    if most - p < h.depth.saturating_sub(k) {
+        return Err(Refusal::Depth);
     }
-    0
+    Ok(())
 }
 
 fn at_depth(h: Held, d: usize) -> Held
     ensures { Moved h result d }
 {
-    Held {
-        at: h.at,
-        locals: h.locals,
-        depth: d,
-        flag: h.flag,
-    }
+    Held { depth: d, ..h }
 }
 
 // ---- Reads.
 
 // The k-th operand from the top; top where there is none.
+#[tactic(auto, using(crate::specs::SlotLaws::leaves))]
 pub fn peek(t: &[u8], h: Held, k: usize) -> Ty
     requires { Placed t.now h }
     ensures { type_of result.word ≡ operand k (operands_of t.now h) }
@@ -105,6 +82,7 @@ pub fn peek(t: &[u8], h: Held, k: usize) -> Ty
 }
 
 // Local j; top where there is none.
+#[tactic(auto, using(crate::specs::SlotLaws::leaves))]
 pub fn local(t: &[u8], h: Held, j: usize) -> Ty
     requires { Placed t.now h }
     ensures { type_of result.word ≡ get_or (locals_of t.now h) j top }
@@ -118,20 +96,18 @@ pub fn local(t: &[u8], h: Held, j: usize) -> Ty
 }
 
 // No copy of the uninitialised object among the operands.
+#[tactic(auto, using(crate::specs::SlotLaws::turns))]
 pub fn no_copy(t: &[u8], h: Held, key: Ty) -> bool
     requires { Placed t.now h }
     ensures { result ≡ no_copy (key_of (type_of key.word)) (operands_of t.now h) }
 {
-    let x = h.at + 32;
-    let mut left = h.depth;
-    while 0 < left {
+    for i in 0..h.depth {
         let a = Ty {
-            word: kit::word(t, x + (left - 1)),
+            word: kit::word(t, h.at + 32 + (h.depth - (i + 1))),
         };
         if a.is_uninit(key) {
             return false;
         }
-        left -= 1;
     }
     true
 }
@@ -142,7 +118,7 @@ pub fn no_copy(t: &[u8], h: Held, key: Ty) -> bool
 pub fn cut(h: Held, k: usize) -> Held
     ensures { Moved h result (h.depth - k) }
 {
-    at_depth(h, less(h.depth, k))
+    at_depth(h, h.depth.saturating_sub(k))
 }
 
 // k operands go, w comes.
@@ -150,7 +126,7 @@ pub fn put(t: &mut [u8], h: Held, k: usize, w: Ty) -> Held
     requires { Roomy t.old h × (h.depth - k < 40) }
     ensures { Moved h result (h.depth - k + 1) × (held t.new result ≡ pushed k (type_of w.word) (held t.old h)) × Outside h.at t.old t.new }
 {
-    let d = less(h.depth, k);
+    let d = h.depth.saturating_sub(k);
     kit::put_word(t, h.at + 32 + d, w.word);
     at_depth(h, d + 1)
 }
@@ -165,6 +141,7 @@ pub fn set_local(t: &mut [u8], h: Held, j: usize, w: Ty)
     kit::put_word(t, h.at + j, w.word);
 }
 
+#[tactic(auto, using(crate::specs::SlotLaws::leaves))]
 fn swapped(a: Ty, key: Ty, w: Ty) -> Ty
     ensures { type_of result.word ≡ swap1 (key_of (type_of key.word)) (type_of w.word) (type_of a.word) }
 {
@@ -179,14 +156,12 @@ fn swap_range(t: &mut [u8], x: usize, m: usize, key: Ty, w: Ty)
     requires { x + m ≤ length t.old / 4 }
     ensures { Swapped (key_of (type_of key.word)) (type_of w.word) t.old t.new x m }
 {
-    let mut i = 0;
-    while i < m {
+    for i in 0..m {
         let a = Ty {
             word: kit::word(t, x + i),
         };
         let b = swapped(a, key, w);
         kit::put_word(t, x + i, b.word);
-        i += 1;
     }
 }
 
@@ -208,123 +183,124 @@ pub fn replace_all(t: &mut [u8], h: Held, key: Ty, w: Ty)
 // ---- Fitting, by the parents at kin.
 
 // The k-th operand fits w.
-pub fn fit_operand(t: &[u8], kin: Kin, h: Held, k: usize, w: Ty) -> u32
+#[tactic(auto, using(crate::specs::SlotLaws::leaves))]
+pub fn fit_operand(t: &[u8], kin: Kin, h: Held, k: usize, w: Ty) -> Result<(), Refusal>
     requires { Placed t.now h }
-    ensures { is result ≡ verdict (claim 16 (fits (lineage t.now kin.at kin.count) (operand k (operands_of t.now h)) (type_of w.word)) ∷ []) }
+    ensures { ruled number result ≡ verdict (claim 16 (fits (lineage t.now kin.at kin.count) (operand k (operands_of t.now h)) (type_of w.word)) ∷ []) }
 {
-    if types::same_or_assignable(t, kin, peek(t, h, k), w) {
-        return 0;
-    }
-    16
+    must(
+        types::same_or_assignable(t, kin, peek(t, h, k), w),
+        Refusal::Operand,
+    )
 }
 
 // What a handler sees of a local: a copy of the object that is hidden is top.
-fn veiled(a: Ty, hide: bool, key: Ty) -> Ty
-    ensures { type_of result.word ≡ veil1 hide (key_of (type_of key.word)) (type_of a.word) }
+#[tactic(auto, using(crate::specs::SlotLaws::leaves))]
+fn veiled(a: Ty, hidden: Option<Ty>) -> Ty
+    ensures { type_of result.word ≡ veil1 (is_some hidden) (hidden_key hidden) (type_of a.word) }
 {
-    if hide {
-        return swapped(a, key, Ty::top());
+    match hidden {
+        Some(key) => swapped(a, key, Ty::top()),
+        None => a,
     }
-    a
 }
 
-// The n slots from a on, with copies of the key's object hidden, fit those from b on.
-fn fit_range(t: &[u8], kin: Kin, a: usize, b: usize, n: usize, hide: bool, key: Ty) -> u32
+// The n slots from a on, with copies of the hidden object as top, fit those from b on.
+fn fit_range(
+    t: &[u8],
+    kin: Kin,
+    a: usize,
+    b: usize,
+    n: usize,
+    hidden: Option<Ty>,
+) -> Result<(), Refusal>
     requires { (a + n ≤ length t.now / 4) × (b + n ≤ length t.now / 4) }
-    ensures { is result ≡ verdict (slots_fit (lineage t.now kin.at kin.count) (veil hide (key_of (type_of key.word)) (locals_at t.now a n)) (locals_at t.now b n)) }
+    ensures { ruled number result ≡ verdict (slots_fit (lineage t.now kin.at kin.count) (veil (is_some hidden) (hidden_key hidden) (locals_at t.now a n)) (locals_at t.now b n)) }
 {
-    let mut p = a;
-    let mut q = b;
-    let mut left = n;
-    while 0 < left {
+    for i in 0..n {
         let u = Ty {
-            word: kit::word(t, p),
+            word: kit::word(t, a + i),
         };
         let v = Ty {
-            word: kit::word(t, q),
+            word: kit::word(t, b + i),
         };
-        if !types::same_or_assignable(t, kin, veiled(u, hide, key), v) {
-            return 16;
+        if !types::same_or_assignable(t, kin, veiled(u, hidden), v) {
+            return Err(Refusal::Operand);
         }
-        p += 1;
-        q += 1;
-        left -= 1;
     }
-    0
+    Ok(())
 }
 
 // The d operands from a on fit those from b on, the last first.
-fn fit_stack(t: &[u8], kin: Kin, a: usize, b: usize, d: usize) -> u32
+#[tactic(auto, using(crate::specs::SlotLaws::turns))]
+fn fit_stack(t: &[u8], kin: Kin, a: usize, b: usize, d: usize) -> Result<(), Refusal>
     requires { (a + d ≤ length t.now / 4) × (b + d ≤ length t.now / 4) }
-    ensures { is result ≡ verdict (slots_fit (lineage t.now kin.at kin.count) (stack_at t.now a d) (stack_at t.now b d)) }
+    ensures { ruled number result ≡ verdict (slots_fit (lineage t.now kin.at kin.count) (stack_at t.now a d) (stack_at t.now b d)) }
 {
-    let mut left = d;
-    while 0 < left {
+    for i in 0..d {
         let u = Ty {
-            word: kit::word(t, a + (left - 1)),
+            word: kit::word(t, a + (d - (i + 1))),
         };
         let v = Ty {
-            word: kit::word(t, b + (left - 1)),
+            word: kit::word(t, b + (d - (i + 1))),
         };
         if !types::same_or_assignable(t, kin, u, v) {
-            return 16;
+            return Err(Refusal::Operand);
         }
-        left -= 1;
     }
-    0
+    Ok(())
 }
 
-fn same(a: bool, b: bool) -> bool
-    ensures { result ≡ beq a b }
-{
-    if a {
-        return b;
-    }
-    !b
-}
-
-// h's locals, with copies of the key's object hidden, fit f's.
-fn fit_locals(t: &[u8], kin: Kin, h: Held, f: Held, hide: bool, key: Ty) -> u32
+// h's locals, with copies of the hidden object as top, fit f's.
+#[tactic(auto, using(crate::specs::SlotLaws::leaves))]
+fn fit_locals(t: &[u8], kin: Kin, h: Held, f: Held, hidden: Option<Ty>) -> Result<(), Refusal>
     requires { Placed t.now h × Placed t.now f }
-    ensures { is result ≡ verdict (slots_fit (lineage t.now kin.at kin.count) (veil hide (key_of (type_of key.word)) (locals_of t.now h)) (locals_of t.now f)) }
+    ensures { ruled number result ≡ verdict (slots_fit (lineage t.now kin.at kin.count) (veil (is_some hidden) (hidden_key hidden) (locals_of t.now h)) (locals_of t.now f)) }
 {
     let n = f.locals;
     if h.locals != n {
-        return 16;
+        return Err(Refusal::Operand);
     }
-    fit_range(t, kin, h.at, f.at, n, hide, key)
+    fit_range(t, kin, h.at, f.at, n, hidden)
 }
 
 // A state fits a frame: flag, depth, slots.
-pub fn fit_states(t: &[u8], kin: Kin, h: Held, f: Held) -> u32
+pub fn fit_states(t: &[u8], kin: Kin, h: Held, f: Held) -> Result<(), Refusal>
     requires { Placed t.now h × Placed t.now f × (f.depth ≤ 32) }
-    ensures { is result ≡ verdict (state_fits (lineage t.now kin.at kin.count) (held t.now h) (held t.now f)) }
+    ensures { ruled number result ≡ verdict (state_fits (lineage t.now kin.at kin.count) (held t.now h) (held t.now f)) }
 {
-    if !same(h.flag, f.flag) {
-        return 18;
+    if h.flag != f.flag {
+        return Err(Refusal::Construction);
     }
     let d = f.depth;
     if h.depth != d {
-        return 16;
+        return Err(Refusal::Operand);
     }
-    let a = fit_locals(t, kin, h, f, false, Ty::top());
-    first(a, fit_stack(t, kin, h.at + 32, f.at + 32, d))
+    fit_locals(t, kin, h, f, None)?;
+    fit_stack(t, kin, h.at + 32, f.at + 32, d)
 }
 
-// What a handler gets fits its frame: a clear flag, the locals with copies of the key's object hidden, and what is caught alone on the stack.
-pub fn fit_caught(t: &[u8], kin: Kin, h: Held, f: Held, hide: bool, key: Ty, w: Ty) -> u32
+// What a handler gets fits its frame: a clear flag, the locals with copies of the hidden object as top, and what is caught alone on the stack.
+pub fn fit_caught(
+    t: &[u8],
+    kin: Kin,
+    h: Held,
+    f: Held,
+    hidden: Option<Ty>,
+    w: Ty,
+) -> Result<(), Refusal>
     requires { Placed t.now h × Placed t.now f }
-    ensures { is result ≡ verdict (state_fits (lineage t.now kin.at kin.count) (state false (veil hide (key_of (type_of key.word)) (locals_of t.now h)) (type_of w.word ∷ [])) (held t.now f)) }
+    ensures { ruled number result ≡ verdict (state_fits (lineage t.now kin.at kin.count) (state false (veil (is_some hidden) (hidden_key hidden) (locals_of t.now h)) (type_of w.word ∷ [])) (held t.now f)) }
 {
     if f.flag {
-        return 18;
+        return Err(Refusal::Construction);
     }
     if f.depth != 1 {
-        return 16;
+        return Err(Refusal::Operand);
     }
-    let a = fit_locals(t, kin, h, f, hide, key);
-    if types::same_or_assignable(t, kin, w, peek(t, f, 0)) {
-        return a;
-    }
-    first(a, 16)
+    fit_locals(t, kin, h, f, hidden)?;
+    must(
+        types::same_or_assignable(t, kin, w, peek(t, f, 0)),
+        Refusal::Operand,
+    )
 }

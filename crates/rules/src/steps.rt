@@ -1,6 +1,7 @@
 // One instruction on a state in lent words: what is asked of it, and the state that it leaves, group by group.
 ghost use Rattle.std.specs.Prelude.{◌≡◌, not, [], ◌∷◌, ◌+◌, ◌-◌, ◌≤◌, leb, length, get_or};
-ghost use Rattle.kit.specs.Claims.{is, verdict, then, claim};
+ghost use Rattle.kit.specs.Claims.{ruled, verdict, then, claim};
+ghost use Rattle.texts.specs.Faults.{number};
 ghost use Rattle.rules.specs.Types.{top, at, is_int, is_reference, is_array};
 ghost use Rattle.rules.specs.States.{operand, no_copy};
 ghost use Rattle.rules.specs.Rule.{returns_int, returns_ref, returns_void, returned};
@@ -11,19 +12,18 @@ ghost use Rattle.rules.specs.Forms.{takes_of, plain_takes, plain_gives, branch_t
 ghost use Rattle.rules.specs.Groups.{local_claims, local_after, stack_claims, stack_after, results_of, leave_claims, new_claims, new_after};
 
 use crate::forms::{
-    Gives, Takes, ask_form, ask_takes, branch_takes, count, leave_form, plain_gives, plain_takes,
+    Takes, ask_form, ask_takes, branch_takes, count, leave_form, plain_gives, plain_takes,
 };
 use crate::instruction::{Branch, Leave, Local, Plain, Stack};
-use crate::slots::{
-    Held, cut, first, local, must, no_copy, peek, put, replace_locals, room, set_local,
-};
+use crate::slots::{Held, cut, local, must, no_copy, peek, put, replace_locals, room, set_local};
 use crate::types::{Kin, Ty};
+use texts::faults::Refusal;
 
 // ---- Forms that depend on nothing else.
 
-pub fn ask_plain(t: &[u8], kin: Kin, h: Held, i: Plain, most: usize) -> u32
+pub fn ask_plain(t: &[u8], kin: Kin, h: Held, i: Plain, most: usize) -> Result<(), Refusal>
     requires { Placed t.now h }
-    ensures { is result ≡ verdict (form_claims (lineage t.now kin.at kin.count) most (plain_takes i) (plain_gives i) (held t.now h)) }
+    ensures { ruled number result ≡ verdict (form_claims (lineage t.now kin.at kin.count) most (plain_takes i) (plain_gives i) (held t.now h)) }
 {
     ask_form(t, kin, h, plain_takes(i), plain_gives(i), most)
 }
@@ -35,84 +35,107 @@ pub fn leave_plain(t: &mut [u8], h: Held, i: Plain) -> Held
     leave_form(t, h, count(plain_takes(i)), plain_gives(i))
 }
 
-pub fn ask_branch(t: &[u8], kin: Kin, h: Held, i: Branch, most: usize) -> u32
+pub fn ask_branch(t: &[u8], kin: Kin, h: Held, i: Branch, most: usize) -> Result<(), Refusal>
     requires { Placed t.now h }
-    ensures { is result ≡ verdict (form_claims (lineage t.now kin.at kin.count) most (branch_takes i) [] (held t.now h)) }
+    ensures { ruled number result ≡ verdict (form_claims (lineage t.now kin.at kin.count) most (branch_takes i) [] (held t.now h)) }
 {
-    ask_form(t, kin, h, branch_takes(i), Gives::Nothing, most)
+    ask_form(t, kin, h, branch_takes(i), None, most)
 }
 
 pub fn leave_branch(t: &mut [u8], h: Held, i: Branch) -> Held
     requires { Roomy t.old h × (h.depth ≤ 32) }
     ensures { Kept h result × (held t.new result ≡ turned (length (branch_takes i)) [] (held t.old h)) × Outside h.at t.old t.new }
 {
-    leave_form(t, h, count(branch_takes(i)), Gives::Nothing)
+    leave_form(t, h, count(branch_takes(i)), None)
 }
 
-// ---- What a form asks beside its operands.
+// ---- What a form asks beside its operands: one question of one slot each. The question as a closure would need clauses longer than the
+// function.
 
 // Local j is an int.
-fn int_local(t: &[u8], h: Held, j: usize) -> u32
+#[tactic(auto, using(crate::specs::GroupLaws::own))]
+fn int_local(t: &[u8], h: Held, j: usize) -> Result<(), Refusal>
     requires { Placed t.now h }
-    ensures { is result ≡ verdict (claim 16 (is_int (get_or (locals_of t.now h) j top)) ∷ []) }
+    ensures { ruled number result ≡ verdict (claim 16 (is_int (get_or (locals_of t.now h) j top)) ∷ []) }
 {
     let a = local(t, h, j);
-    must(a.is_int(), 16)
+    must(a.is_int(), Refusal::Operand)
 }
 
 // Local j is a reference.
-fn reference_local(t: &[u8], h: Held, j: usize) -> u32
+#[tactic(auto, using(crate::specs::GroupLaws::own))]
+fn reference_local(t: &[u8], h: Held, j: usize) -> Result<(), Refusal>
     requires { Placed t.now h }
-    ensures { is result ≡ verdict (claim 16 (is_reference (get_or (locals_of t.now h) j top)) ∷ []) }
+    ensures { ruled number result ≡ verdict (claim 16 (is_reference (get_or (locals_of t.now h) j top)) ∷ []) }
 {
     let a = local(t, h, j);
-    must(a.is_reference(), 16)
+    must(a.is_reference(), Refusal::Operand)
 }
 
 // The top operand is a reference.
-fn reference_top(t: &[u8], h: Held) -> u32
+#[tactic(auto, using(crate::specs::GroupLaws::own))]
+fn reference_top(t: &[u8], h: Held) -> Result<(), Refusal>
     requires { Placed t.now h }
-    ensures { is result ≡ verdict (claim 16 (is_reference (operand 0 (operands_of t.now h))) ∷ []) }
+    ensures { ruled number result ≡ verdict (claim 16 (is_reference (operand 0 (operands_of t.now h))) ∷ []) }
 {
     let a = peek(t, h, 0);
-    must(a.is_reference(), 16)
+    must(a.is_reference(), Refusal::Operand)
 }
 
 // The top operand is an array.
-fn array_top(t: &[u8], h: Held) -> u32
+#[tactic(auto, using(crate::specs::GroupLaws::own))]
+fn array_top(t: &[u8], h: Held) -> Result<(), Refusal>
     requires { Placed t.now h }
-    ensures { is result ≡ verdict (claim 16 (is_array (operand 0 (operands_of t.now h))) ∷ []) }
+    ensures { ruled number result ≡ verdict (claim 16 (is_array (operand 0 (operands_of t.now h))) ∷ []) }
 {
     let a = peek(t, h, 0);
-    must(a.is_array(), 16)
+    must(a.is_array(), Refusal::Operand)
 }
 
 // The operands k, then the form's own answer, then room: c operands go and p come.
-fn ask_with(t: &[u8], kin: Kin, h: Held, k: Takes, own: u32, c: usize, p: usize, most: usize) -> u32
+fn ask_with(
+    t: &[u8],
+    kin: Kin,
+    h: Held,
+    k: Takes,
+    own: Result<(), Refusal>,
+    c: usize,
+    p: usize,
+    most: usize,
+) -> Result<(), Refusal>
     requires { Placed t.now h }
-    ensures { is result ≡ then (verdict (asked (lineage t.now kin.at kin.count) (operands_of t.now h) (takes_of k))) (then (is own) (verdict (claim 15 (leb (p + (h.depth - c)) most) ∷ []))) }
+    ensures { ruled number result ≡ then (verdict (asked (lineage t.now kin.at kin.count) (operands_of t.now h) (takes_of k))) (then (ruled number own) (verdict (claim 15 (leb (p + (h.depth - c)) most) ∷ []))) }
 {
-    first(ask_takes(t, kin, h, k), first(own, room(h, c, p, most)))
+    ask_takes(t, kin, h, k)?;
+    own?;
+    room(h, c, p, most)
 }
 
 // ---- Locals.
 
 // No operands; the form's own answer, then room for p more.
-fn ask_read(t: &[u8], kin: Kin, h: Held, own: u32, p: usize, most: usize) -> u32
+fn ask_read(
+    t: &[u8],
+    kin: Kin,
+    h: Held,
+    own: Result<(), Refusal>,
+    p: usize,
+    most: usize,
+) -> Result<(), Refusal>
     requires { Placed t.now h }
-    ensures { is result ≡ then (verdict (asked (lineage t.now kin.at kin.count) (operands_of t.now h) [])) (then (is own) (verdict (claim 15 (leb (p + (h.depth - 0)) most) ∷ []))) }
+    ensures { ruled number result ≡ then (verdict (asked (lineage t.now kin.at kin.count) (operands_of t.now h) [])) (then (ruled number own) (verdict (claim 15 (leb (p + (h.depth - 0)) most) ∷ []))) }
 {
     ask_with(t, kin, h, Takes::Zero, own, 0, p, most)
 }
 
-pub fn ask_local(t: &[u8], kin: Kin, h: Held, i: Local, most: usize) -> u32
+pub fn ask_local(t: &[u8], kin: Kin, h: Held, i: Local, most: usize) -> Result<(), Refusal>
     requires { Placed t.now h }
-    ensures { is result ≡ verdict (local_claims (lineage t.now kin.at kin.count) most i (held t.now h)) }
+    ensures { ruled number result ≡ verdict (local_claims (lineage t.now kin.at kin.count) most i (held t.now h)) }
 {
     match i {
         Local::Iload(j) => ask_read(t, kin, h, int_local(t, h, j as usize), 1, most),
         Local::Aload(j) => ask_read(t, kin, h, reference_local(t, h, j as usize), 1, most),
-        Local::Istore(_) => ask_with(t, kin, h, Takes::One(Ty::int()), 0, 1, 0, most),
+        Local::Istore(_) => ask_with(t, kin, h, Takes::One(Ty::int()), Ok(()), 1, 0, most),
         Local::Astore(_) => ask_with(
             t,
             kin,
@@ -159,14 +182,32 @@ pub fn leave_local(t: &mut [u8], h: Held, i: Local) -> Held
 
 // ---- The stack.
 
-pub fn ask_stack(t: &[u8], kin: Kin, h: Held, i: Stack, most: usize) -> u32
+pub fn ask_stack(t: &[u8], kin: Kin, h: Held, i: Stack, most: usize) -> Result<(), Refusal>
     requires { Placed t.now h }
-    ensures { is result ≡ verdict (stack_claims (lineage t.now kin.at kin.count) most i (held t.now h)) }
+    ensures { ruled number result ≡ verdict (stack_claims (lineage t.now kin.at kin.count) most i (held t.now h)) }
 {
     match i {
-        Stack::Dup => ask_with(t, kin, h, Takes::One(Ty::top()), 0, 0, 1, most),
-        Stack::Dupx1 => ask_with(t, kin, h, Takes::Two(Ty::top(), Ty::top()), 0, 2, 3, most),
-        Stack::Swap => ask_with(t, kin, h, Takes::Two(Ty::top(), Ty::top()), 0, 2, 2, most),
+        Stack::Dup => ask_with(t, kin, h, Takes::One(Ty::top()), Ok(()), 0, 1, most),
+        Stack::Dupx1 => ask_with(
+            t,
+            kin,
+            h,
+            Takes::Two(Ty::top(), Ty::top()),
+            Ok(()),
+            2,
+            3,
+            most,
+        ),
+        Stack::Swap => ask_with(
+            t,
+            kin,
+            h,
+            Takes::Two(Ty::top(), Ty::top()),
+            Ok(()),
+            2,
+            2,
+            most,
+        ),
         Stack::Arraylength => ask_with(
             t,
             kin,
@@ -182,7 +223,7 @@ pub fn ask_stack(t: &[u8], kin: Kin, h: Held, i: Stack, most: usize) -> u32
             kin,
             h,
             Takes::Two(Ty::int(), Ty::array(0, 0)),
-            0,
+            Ok(()),
             2,
             1,
             most,
@@ -225,56 +266,64 @@ pub fn leave_stack(t: &mut [u8], h: Held, i: Stack) -> Held
 
 // ---- Leaving a method; back is what its descriptor returns.
 
-fn returns_int(back: Gives) -> bool
+fn returns_int(back: Option<Ty>) -> bool
     ensures { result ≡ returns_int (results_of back) }
 {
     match back {
-        Gives::Nothing => false,
-        Gives::Value(w) => w.word % 8 == Ty::INT,
+        None => false,
+        Some(w) => w.word % 8 == Ty::INT,
     }
 }
 
-fn returns_reference(back: Gives) -> bool
+fn returns_reference(back: Option<Ty>) -> bool
     ensures { result ≡ returns_ref (results_of back) }
 {
     match back {
-        Gives::Nothing => false,
-        Gives::Value(w) => w.word % 8 != Ty::INT,
+        None => false,
+        Some(w) => w.word % 8 != Ty::INT,
     }
 }
 
-fn returns_void(back: Gives) -> bool
+fn returns_void(back: Option<Ty>) -> bool
     ensures { result ≡ returns_void (results_of back) }
 {
     match back {
-        Gives::Nothing => true,
-        Gives::Value(_) => false,
+        None => true,
+        Some(_) => false,
     }
 }
 
-fn returned_type(back: Gives) -> Ty
+fn returned_type(back: Option<Ty>) -> Ty
     ensures { type_of result.word ≡ returned (results_of back) }
 {
     match back {
-        Gives::Nothing => Ty::top(),
-        Gives::Value(w) => w.described(),
+        None => Ty::top(),
+        Some(w) => w.described(),
     }
 }
 
 // The descriptor is of that kind, and no constructor leaves with the flag set.
-fn may_leave(kind: bool, flag: bool) -> u32
-    ensures { is result ≡ verdict (claim 16 kind ∷ claim 18 (not flag) ∷ []) }
+fn may_leave(kind: bool, flag: bool) -> Result<(), Refusal>
+    ensures { ruled number result ≡ verdict (claim 16 kind ∷ claim 18 (not flag) ∷ []) }
 {
-    first(must(kind, 16), must(!flag, 18))
+    must(kind, Refusal::Operand)?;
+    must(!flag, Refusal::Construction)
 }
 
-pub fn ask_leave(t: &[u8], kin: Kin, h: Held, i: Leave, back: Gives, most: usize) -> u32
+pub fn ask_leave(
+    t: &[u8],
+    kin: Kin,
+    h: Held,
+    i: Leave,
+    back: Option<Ty>,
+    most: usize,
+) -> Result<(), Refusal>
     requires { Placed t.now h }
-    ensures { is result ≡ verdict (leave_claims (lineage t.now kin.at kin.count) most (results_of back) i (held t.now h)) }
+    ensures { ruled number result ≡ verdict (leave_claims (lineage t.now kin.at kin.count) most (results_of back) i (held t.now h)) }
 {
     let d = h.depth;
     match i {
-        Leave::Athrow => ask_with(t, kin, h, Takes::One(Ty::class(1)), 0, d, 0, most),
+        Leave::Athrow => ask_with(t, kin, h, Takes::One(Ty::class(1)), Ok(()), d, 0, most),
         Leave::Ireturn => ask_with(
             t,
             kin,
@@ -310,17 +359,18 @@ pub fn ask_leave(t: &[u8], kin: Kin, h: Held, i: Leave, back: Gives, most: usize
 
 // ---- new at the offset o.
 
-fn no_old_copy(t: &[u8], h: Held, o: u16) -> u32
+#[tactic(auto, using(crate::specs::GroupLaws::own))]
+fn no_old_copy(t: &[u8], h: Held, o: u16) -> Result<(), Refusal>
     requires { Placed t.now h }
-    ensures { is result ≡ verdict (claim 18 (no_copy (at o) (operands_of t.now h)) ∷ []) }
+    ensures { ruled number result ≡ verdict (claim 18 (no_copy (at o) (operands_of t.now h)) ∷ []) }
 {
     let key = Ty::uninit(o);
-    must(no_copy(t, h, key), 18)
+    must(no_copy(t, h, key), Refusal::Construction)
 }
 
-pub fn ask_new(t: &[u8], kin: Kin, h: Held, o: u16, most: usize) -> u32
+pub fn ask_new(t: &[u8], kin: Kin, h: Held, o: u16, most: usize) -> Result<(), Refusal>
     requires { Placed t.now h }
-    ensures { is result ≡ verdict (new_claims (lineage t.now kin.at kin.count) most o (held t.now h)) }
+    ensures { ruled number result ≡ verdict (new_claims (lineage t.now kin.at kin.count) most o (held t.now h)) }
 {
     ask_with(t, kin, h, Takes::Zero, no_old_copy(t, h, o), 0, 1, most)
 }

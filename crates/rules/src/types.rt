@@ -1,5 +1,5 @@
 // Verification types, each in one word, and which fits which.
-ghost use Rattle.std.specs.Prelude.{◌≡◌, ◌+◌, ◌*◌, ◌<◌, ◌/◌, ◌%◌, eqb};
+ghost use Rattle.std.specs.Prelude.{◌≡◌, ◌+◌, ◌*◌, ◌<◌, ◌/◌, ◌%◌};
 ghost use Rattle.classfiles.specs.Descriptors.{cls, arr};
 ghost use Rattle.reader.specs.Program.{class, below};
 ghost use Rattle.rules.specs.Types.{top, int, null, ini, uninit, at, self, is_int, is_null, is_top, is_reference, is_array, is_uninit, element_ty, ty_of, desc_fits, fits_ref, fits};
@@ -9,8 +9,8 @@ ghost use Rattle.rules.specs.InstructionWords.{ref_of, desc_of, element_of};
 ghost use Rattle.rules.specs.Ancestry.{lineage};
 
 // A type as the view of a word: kind + 8 * depth + 64 * number. The number is a class's, an array's base or a new's offset; the depth is
-// that of an array's elements.
-#[derive(Clone, Copy)]
+// that of an array's elements. It stays packed: states and frames are words of the lent scratch.
+#[derive(Clone, Copy, Debug, PartialEq, Eq)]
 pub struct Ty {
     pub word: u32,
 }
@@ -244,13 +244,11 @@ pub fn is_below(t: &[u8], kin: Kin, c: u32, d: u32) -> bool
     ensures { result ≡ below (lineage t.now kin.at kin.count) c d }
 {
     let mut at = c;
-    let mut left = kin.count;
-    while 0 < left {
+    for _ in 0..kin.count {
         if at == d {
             return true;
         }
         at = parent(t, kin, at);
-        left -= 1;
     }
     at == d
 }
@@ -337,7 +335,7 @@ pub fn assignable(t: &[u8], kin: Kin, a: Ty, b: Ty) -> bool
 pub fn same_or_assignable(t: &[u8], kin: Kin, a: Ty, b: Ty) -> bool
     ensures { result ≡ fits (lineage t.now kin.at kin.count) (type_of a.word) (type_of b.word) }
 {
-    if a.word == b.word {
+    if a == b {
         return true;
     }
     assignable(t, kin, a, b)

@@ -1,7 +1,6 @@
 -- An instruction that calls is three bytes long and names a method of its kind. Assumes nothing.
 use Rattle.std.specs.Prelude.{ℕ, ◌+◌, ◌-◌, ◌*◌, ◌≡◌, refl, Bool, cond, List, [], ◌∷◌, get_or, eqb, ltb}
-use Rattle.std.proofs.Common.{subst}
-use Rattle.std.proofs.Math.Bool.{true, false}
+use Rattle.std.proofs.Common.{subst, true, false}
 use Rattle.classfiles.specs.Limits.{max_dimensions}
 use Rattle.classfiles.specs.Descriptors.{Ref, cls, arr, dint, dref, dimensions}
 use Rattle.reader.specs.Program.{Program, Method, class}

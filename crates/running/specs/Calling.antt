@@ -1,12 +1,10 @@
 -- What an instruction that calls comes to, by the code's tests in the definition's order. Assumes nothing.
-use Rattle.std.specs.Prelude.{ℕ, suc, ◌+◌, ◌-◌, ◌*◌, ◌<◌, ◌≤◌, ◌≡◌, refl, Bool, true, false, cond, not, ◌⊎◌, eqb, leb, length}
-use Rattle.std.proofs.Common.{sym, ◌∙◌, inl, inr, arith, le-leb, ne_eqb, length-append}
-use Rattle.std.proofs.Math.Path.{ap}
-use mathlib.Core.List.{List, [], ◌∷◌, reverse}
-use Rattle.std.proofs.lemmas.Bool.{lt-leb, not-false}
+use Rattle.std.specs.Prelude.{Ok, Err, IfOk, OnErr, IsErrAnd, ℕ, suc, ◌+◌, ◌-◌, ◌*◌, ◌<◌, ◌≤◌, ◌≡◌, refl, Bool, true, false, cond, ◌⊎◌, leb, length}
+use Rattle.std.proofs.Common.{sym, ◌∙◌, inl, inr, arith, le-leb, length-append, ap, List, [], ◌∷◌, reverse}
+use Rattle.std.proofs.lemmas.Bool.{lt-leb}
 use Rattle.kit.specs.Bools.{not_so}
 use Rattle.kit.specs.Pick.{side}
-use Rattle.reader.specs.BuiltIns.{first_class, null_pointer}
+use Rattle.reader.specs.BuiltIns.{first_class}
 use Rattle.classfiles.specs.Descriptors.{Desc}
 use Rattle.classfiles.specs.Members.{Body}
 use Rattle.reader.specs.Program.{Program, Method}
@@ -26,19 +24,19 @@ use Rattle.verifier.specs.Besides.{Besides, besides_none}
 use Rattle.shaping.specs.Phases.{Readied, program_now, shape_by}
 use Rattle.shaping.specs.Passing.{judged_pass, codes_one}
 use Rattle.plain.specs.Heap.{Heap, heap, Val}
-use Rattle.plain.specs.Machine.{stuck, Result, stopped, Here, only, pop_arguments, result_room, fault, enter}
+use Rattle.plain.specs.Machine.{stuck, Result, stopped, Here, only, pop_arguments, result_room, enter}
 use Rattle.plain.specs.Step.{call_static}
-use Rattle.plain.specs.Windows.{ops_of, length_ops}
+use Rattle.plain.specs.Windows.{ops_of, halt_of, length_ops}
 use Rattle.plain.specs.Calls.{window_at}
-use Rattle.plain.specs.CallSteps.{Runs, going_of, args_at}
+use Rattle.plain.specs.CallSteps.{Runs, Going, going_of, args_at}
 use Rattle.rules.specs.declared.site.Site.{Site}
 use Rattle.rules.specs.declared.instruction.Callee.{Callee}
 use Rattle.plain.specs.declared.frames.Frame.{Frame}
-use Rattle.plain.specs.declared.calls.Going.{Going}
-use Rattle.running.specs.declared.popping.Popped.{Popped}
+use Rattle.plain.specs.declared.window.Halt.{Halt}
+use Rattle.plain.specs.declared.window.Halt.TheVariants.{Stuck}
 use Rattle.running.specs.declared.entering.Way.{Way}
 use Rattle.running.specs.Standing.{records, Row, method_by, AtCall, Standing, Passed, passed, few_operands}
-use Rattle.running.specs.Popping.{Pops, kin_of}
+use Rattle.running.specs.Popping.{Taking, Pops, kin_of}
 use Rattle.running.specs.Entering.{Enterable, Into}
 
 -- ---- a context that stands where the code does
@@ -47,38 +45,43 @@ pub record At (t s g cells : List ℕ) (used d : ℕ) (k : Frame) (x : Here) : T
   pub heap : x.heap ≡ heap cells used
   pub after : x.after ≡ k.offset + 3
 
--- on in a call, stopped, or the one fault that a call has
-abbrev pub called_of : Program → Here → Heap → List ℕ → List ℕ → List ℕ → Going → Result
-called_of P x H t s g r = cond (eqb r.end 7) (fault P x null_pointer) (going_of H t records s g r)
-
 -- an instruction's outcome is what the definition says in every such context; the invariant stands wherever the run goes on
 pub record Called (b : List ℕ) (n : ℕ) (t s g cells t' s' g' cells' : List ℕ) (d : ℕ) (k : Frame) (r : Going) (what : Here → Result) : Type 0 where
-  pub is : (x : Here) (used : ℕ) → At t s g cells used d k x → called_of (program_now b n t) x (heap cells' used) t' s' g' r ≡ what x
-  pub stands : r.end ≡ 0 → Standing b n t' s' g' r.depth r.call
-  pub kept : (r.end ≡ 0 → ⊥) → (t' ≡ t) × (s' ≡ s) × (g' ≡ g) × (cells' ≡ cells)
+  pub is : (x : Here) (used : ℕ) → At t s g cells used d k x → going_of (program_now b n t) x (heap cells' used) t' records s' g' r ≡ what x
+  pub stands : IfOk r (λ o. Standing b n t' s' g' o.depth o.call)
+  pub kept : OnErr r ((t' ≡ t) × (s' ≡ s) × (g' ≡ g) × (cells' ≡ cells))
   pub besides : Besides records 384 t t'
 
 module _ (b : List ℕ) (n : ℕ) (t s g cells : List ℕ) (d : ℕ) (k : Frame) (what : Here → Result) where
-  pub called-stuck : (r : Going) → ((x : Here) (used : ℕ) → At t s g cells used d k x → what x ≡ stopped stuck) → r.end ≡ 6
-      → Called b n t s g cells t s g cells d k r what
-  called-stuck r h e = record {
-    is = λ x used a. rw e (sym (h x used a));
-    stands = λ z. absurd (omega arith);
-    kept = λ z. (refl, refl, refl, refl);
+  pub called_halts : (h : Halt) → ((x : Here) (used : ℕ) → At t s g cells used d k x → what x ≡ halt_of (program_now b n t) x h) → Called b n t s g cells t s g cells d k (Err h) what
+  called_halts i h = record {
+    is = λ x used a. sym (h x used a);
+    stands = tt;
+    kept = (refl, refl, refl, refl);
     besides = besides_none records 384 t;
   }
+
+  pub called-stuck : ((x : Here) (used : ℕ) → At t s g cells used d k x → what x ≡ stopped stuck) → Called b n t s g cells t s g cells d k (Err Stuck) what
+  called-stuck h = called_halts Stuck h
+
+  -- the halt that `?` hands on
+  pub called_handed : (r : Going) (h : Halt) → IsErrAnd r (λ z. z ≡ h) → Called b n t s g cells t s g cells d k (Err h) what → Called b n t s g cells t s g cells d k r what
+  called_handed (Ok z) h p s = absurd p
+  called_handed (Err z) h p s = rw p s
 
   pub called_into : (t' s' g' : List ℕ) (y : Way) (r : Going) → Into b n t s g t' s' g' d k y r
       → ((x : Here) (used : ℕ) → At t s g cells used d k x → what x ≡ enter (program_now b n t) x y.class y.method y.own (args_at s g d y.left y.count) (ops_of (window_at s d) (window_at g d) y.left))
       → Called b n t s g cells t' s' g' cells d k r what
   called_into t' s' g' y r z h = record {
-    is = λ x used a.
-        let e : eqb r.end 7 ≡ false = ne_eqb r.end 7 (λ q. omega (arith, z.low)) in
-        rw (e, ← a.heap) (z.is x a.runs ∙ sym (h x used a));
+    is = λ x used a. rw (← a.heap) (z.is x a.runs ∙ sym (h x used a));
     stands = z.stands;
-    kept = λ q. ((z.kept q).0, (z.kept q).1, (z.kept q).2, refl);
+    kept = more r z.kept;
     besides = z.besides;
   }
+    where
+      more : (r : Going) → OnErr r ((t' ≡ t) × (s' ≡ s) × (g' ≡ g)) → OnErr r ((t' ≡ t) × (s' ≡ s) × (g' ≡ g) × (cells ≡ cells))
+      more (Ok o) q = tt
+      more (Err h) q = (q.0, q.1, q.2, refl)
 
 -- ---- what stands before a call: the run, the running method's site, and the instruction that calls
 pub record Calling (b t s g : List ℕ) (x : Site) (d : ℕ) (k : Frame) : Type 0 where
@@ -165,8 +168,8 @@ module _ (b t s g : List ℕ) (x : Site) (d : ℕ) (k : Frame) (h : Calling b t 
   front-asked = (omega (arith, h.standing.ready.long), h.standing.ready.prepared.tables.most)
 
   -- what is left of the operands, and how many were popped
-  pub few_left : (p : Popped) (e : ℕ) (cells : List ℕ) → Pops (front t) (kin_of x.classes) cells (window_at s d) (window_at g d) e k.operands p → not p.ok ≡ false → p.left + p.count ≤ 32
-  few_left p e cells z o = omega (arith, z.all (not-false p.ok o), few_operands b x.classes t s g d k h.standing)
+  pub few_left : (p : Taking) (e : ℕ) (cells : List ℕ) → Pops (front t) (kin_of x.classes) cells (window_at s d) (window_at g d) e k.operands p → p.ok ≡ true → p.left + p.count ≤ 32
+  few_left p e cells z o = omega (arith, z.all o, few_operands b x.classes t s g d k h.standing)
 
 -- ---- a static method
 pub static-row : (b : List ℕ) (n : ℕ) (f : List ℕ) (m : n ≤ 16) (c j : ℕ) → (method_by b n f c j).static ≡ true → Row n f c j
@@ -198,7 +201,7 @@ module _ (b t s g : List ℕ) (x : Site) (d : ℕ) (k : Frame) (m : Callee) (h :
   pub static_entry : entry_at m.owner m.index < 1024
   static_entry = entry_small b x.classes t h.at.standing.ready m.owner m.index static_of
 
-  module _ (cells : List ℕ) (p : Popped) (z : Pops (front t) (kin_of x.classes) cells (window_at s d) (window_at g d) (entry_at m.owner m.index) k.operands p) where
+  module _ (cells : List ℕ) (p : Taking) (z : Pops (front t) (kin_of x.classes) cells (window_at s d) (window_at g d) (entry_at m.owner m.index) k.operands p) where
     abbrev N : Method
     N = method_by b x.classes (front t) m.owner m.index
 
@@ -221,16 +224,16 @@ module _ (b t s g : List ℕ) (x : Site) (d : ℕ) (k : Frame) (m : Callee) (h :
         ∙ z.is (program_now b x.classes t) used (parents_of b x.classes t h.at.standing.ready) (onward y)
         ∙ ap (λ (q : Bool). only p.ok (only q (enters y))) (room_by b t s g x d k h.at cells used y a N p.left)
 
-    pub static_unfit : (r : Going) → p.ok ≡ false → r.end ≡ 6 → Called b x.classes t s g cells t s g cells d k r (static_by b t s g x d k m)
-    static_unfit r e = called-stuck b x.classes t s g cells d k (static_by b t s g x d k m) r (λ y used a. static_is y used a ∙ rw e)
+    pub static_unfit : p.ok ≡ false → Called b x.classes t s g cells t s g cells d k (Err Stuck) (static_by b t s g x d k m)
+    static_unfit e = called-stuck b x.classes t s g cells d k (static_by b t s g x d k m) (λ y used a. static_is y used a ∙ rw e)
 
     module _ (v : ℕ) (ev : v ≡ length (results_in (front t) (entry_at m.owner m.index))) where
       results_long : v ≡ length N.results
       results_long = ev ∙ ap length (sym (results_are b x.classes t h.at.standing.ready m.owner m.index static_of))
 
-      pub static_full : (r : Going) → p.ok ≡ true → x.stack < v + p.left → r.end ≡ 6 → Called b x.classes t s g cells t s g cells d k r (static_by b t s g x d k m)
-      static_full r e l =
-          called-stuck b x.classes t s g cells d k (static_by b t s g x d k m) r
+      pub static_full : p.ok ≡ true → x.stack < v + p.left → Called b x.classes t s g cells t s g cells d k (Err Stuck) (static_by b t s g x d k m)
+      static_full e l =
+          called-stuck b x.classes t s g cells d k (static_by b t s g x d k m)
           (λ y used a. static_is y used a ∙ rw (e, lt-leb (length N.results + p.left) x.stack (omega (arith, results_long, l))))
 
       module _ (e : p.ok ≡ true) (l : v + p.left ≤ x.stack) where
@@ -239,7 +242,7 @@ module _ (b t s g : List ℕ) (x : Site) (d : ℕ) (k : Frame) (m : Callee) (h :
           standing = h.at.standing;
           call = h.at.call;
           of = static_of;
-          args = omega (arith, args_fit N true (passed b x.classes t h.at.standing.ready h.at.standing.shaped m.owner m.index static_of) h.static, z.count, ap length (params_are b x.classes t h.at.standing.ready m.owner m.index static_of));
+          args = omega (arith, args_fit N true (passed b x.classes t h.at.standing.ready h.at.standing.shaped m.owner m.index static_of) h.static, z.count e, ap length (params_are b x.classes t h.at.standing.ready m.owner m.index static_of));
           operands = omega (arith, z.all e);
           room = omega (arith, results_long, l, stack_is b t s g x d k h.at);
         }

@@ -1,5 +1,5 @@
 -- From a call into another, with all but the records of the calls that wait kept. Assumes nothing.
-use Rattle.std.specs.Prelude.{ℕ, ◌+◌, ◌-◌, ◌*◌, ◌<◌, ◌≤◌, ◌≡◌, refl, List, length}
+use Rattle.std.specs.Prelude.{Ok, Err, IfOk, IfErr, OnErr, OnOk, ℕ, ◌+◌, ◌-◌, ◌*◌, ◌<◌, ◌≤◌, ◌≡◌, refl, List, length}
 use Rattle.std.proofs.Common.{sym, ◌∙◌, arith}
 use Rattle.kit.specs.Words.{word, put_word}
 use Rattle.texts.specs.Reading.{u2_at}
@@ -13,9 +13,11 @@ use Rattle.plain.specs.Machine.{Here, enter}
 use Rattle.plain.specs.Windows.{ops_of}
 use Rattle.plain.specs.Calls.{window_at, Saved}
 use Rattle.plain.specs.NextWindow.{Fresh}
-use Rattle.plain.specs.CallSteps.{Lent, Runs, going_of, args_at, Enters, enter_full, enter_on}
+use Rattle.plain.specs.CallSteps.{Lent, Runs, Going, going_of, args_at, Enters, enter_full, enter_on}
 use Rattle.plain.specs.declared.frames.Frame.{Frame}
-use Rattle.plain.specs.declared.calls.Going.{Going}
+use Rattle.plain.specs.declared.calls.Running.{Running}
+use Rattle.plain.specs.declared.window.Halt.{Halt}
+use Rattle.plain.specs.declared.window.Halt.TheVariants.{DepthFull}
 use Rattle.running.specs.declared.entering.Way.{Way}
 use Rattle.running.specs.Standing.{records, Row, method_by, AtCall, Standing, Passed, passed, row_small, locals-word, few_operands, standing-enter}
 
@@ -36,19 +38,18 @@ besides_six t t1 t2 t3 t4 t5 t6 d v1 v2 v3 v4 v5 v6 h e1 e2 e3 e4 e5 e6 =
 pub record Entered (t s g t' s' g' : List ℕ) (d : ℕ) (k : Frame) (n : ℕ) (into : Frame) (r : Going) : Type 0 where
   pub enters : Enters t s g t' s' g' records d k n into r
   pub besides : Besides records 384 t t'
-  pub low : r.end < 7
-  pub full : r.end ≡ 0 → d < 63
+  pub full : OnOk r (d < 63)
+  pub low : IfErr r (λ h. h ≡ DepthFull)
 
 module _ (t s g : List ℕ) (d : ℕ) (k : Frame) (n : ℕ) (into : Frame) where
-  pub entered_full : (r : Going) → 63 ≤ d → r.end ≡ 5 → Entered t s g t s g d k n into r
-  entered_full r h e =
-      record { enters = enter_full t s g records d k n into r h e; besides = besides_none records 384 t; low = omega arith; full = λ z. absurd (omega arith) }
+  pub entered_full : 63 ≤ d → Entered t s g t s g d k n into (Err DepthFull)
+  entered_full h = record { enters = enter_full t s g records d k n into h; besides = besides_none records 384 t; full = tt; low = refl }
 
   pub entered_on : (t' s' g' : List ℕ) → d < 63 → k.operands + n ≤ 32 → into.locals ≤ 32 → into.offset ≡ 0 → into.operands ≡ 0
       → Saved t t' records d k → Besides records 384 t t' → Fresh s s' d k.operands n into.locals → Fresh g g' d k.operands n into.locals
-      → Entered t s g t' s' g' d k n into (record { end = 0; depth = d + 1; call = into })
+      → Entered t s g t' s' g' d k n into (Ok (record { depth = d + 1; call = into }))
   entered_on t' s' g' h b l o z v y p q =
-      record { enters = enter_on t s g records d k n into t' s' g' h b l o z v p q; besides = y; low = omega arith; full = λ e. h }
+      record { enters = enter_on t s g records d k n into t' s' g' h b l o z v p q; besides = y; full = h; low = tt }
 
 -- ---- into a method of the bundle
 -- what a call brings along: its arguments are above the operands that are left, and there is room for its results
@@ -62,11 +63,12 @@ pub record Enterable (b : List ℕ) (n : ℕ) (t s g : List ℕ) (d : ℕ) (k : 
 
 pub record Into (b : List ℕ) (n : ℕ) (t s g t' s' g' : List ℕ) (d : ℕ) (k : Frame) (y : Way) (r : Going) : Type 0 where
   pub is : (x : Here) → Runs x t s g records d k
-      → going_of x.heap t' records s' g' r ≡ enter (program_now b n t) x y.class y.method y.own (args_at s g d y.left y.count) (ops_of (window_at s d) (window_at g d) y.left)
-  pub stands : r.end ≡ 0 → Standing b n t' s' g' r.depth r.call
-  pub kept : (r.end ≡ 0 → ⊥) → (t' ≡ t) × (s' ≡ s) × (g' ≡ g)
+      → going_of (program_now b n t) x x.heap t' records s' g' r ≡ enter (program_now b n t) x y.class y.method y.own (args_at s g d y.left y.count) (ops_of (window_at s d) (window_at g d) y.left)
+  pub stands : IfOk r (λ o. Standing b n t' s' g' o.depth o.call)
+  pub kept : OnErr r ((t' ≡ t) × (s' ≡ s) × (g' ≡ g))
+  -- a call that is entered makes no fault
+  pub low : IfErr r (λ h. h ≡ DepthFull)
   pub besides : Besides records 384 t t'
-  pub low : r.end < 7
 
 -- the call that waits, and the one that is entered
 abbrev pub leaving : Frame → Way → Frame
@@ -103,15 +105,23 @@ module _ (b : List ℕ) (n : ℕ) (t s g : List ℕ) (d : ℕ) (k : Frame) (y : 
     is = λ x w. z.enters.is (program_now b n t) x
         (record { class = w.class; index = w.index; offset = w.offset; self = w.self; locals = w.locals; waiting = w.waiting })
         (padded (body (method_by b n (front t) y.class y.method)).max_locals h.args ∙ sym e);
-    stands = λ o.
-        let p = z.enters.on o in
-        rw (p.0, p.1)
-        (standing-enter b n t t' s g s' g' d k (leaving k y) (entering y m) h.standing z.besides (z.enters.lent h.standing.lent) p.2 (z.full o)
-        refl refl refl refl (omega (arith, h.operands)) h.call h.room h.of refl refl e);
-    kept = z.enters.kept;
-    besides = z.besides;
+    stands = stands r z.enters.on z.full;
+    kept = kept r z.enters.kept;
     low = z.low;
+    besides = z.besides;
   }
     where
+      stands : (r : Going) → ((o : Running) → r ≡ Ok o → (o.depth ≡ d + 1) × (o.call ≡ entering y m) × Saved t t' records d (leaving k y)) → OnOk r (d < 63) → IfOk r (λ o. Standing b n t' s' g' o.depth o.call)
+      stands (Err i) on f = tt
+      stands (Ok o) on f =
+          let p = on o refl in
+          rw (p.0, p.1)
+          (standing-enter b n t t' s g s' g' d k (leaving k y) (entering y m) h.standing z.besides (z.enters.lent h.standing.lent) p.2 f
+          refl refl refl refl (omega (arith, h.operands)) h.call h.room h.of refl refl e)
+
+      kept : (r : Going) → ((i : Halt) → r ≡ Err i → (t' ≡ t) × (s' ≡ s) × (g' ≡ g)) → OnErr r ((t' ≡ t) × (s' ≡ s) × (g' ≡ g))
+      kept (Ok o) q = tt
+      kept (Err i) q = q i refl
+
       padded : (x : ℕ) → y.count ≤ x → y.count + (x - y.count) ≡ x
       padded x l = omega arith

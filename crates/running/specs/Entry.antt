@@ -1,15 +1,12 @@
 -- The entry of a run, and its first call as the code lays it out. Assumes nothing.
-use Rattle.std.specs.Prelude.{ℕ, zero, suc, ◌+◌, ◌-◌, ◌*◌, ◌/◌, ◌%◌, ◌<◌, ◌≤◌, ◌≡◌, Bool, not, List, [], ◌∷◌, ◌++◌, map, ◌⊎◌, eqb, length, get_or, set, drop, replicate}
-use Rattle.std.proofs.Math.Path.{refl, ap}
-use Rattle.std.proofs.Common.{sym, subst, ◌∙◌, inl, inr, zero-add, add-zero, suc-add, add-suc, add-one, length-append, drop_of_length-le, drop-cons, get_or-set_same, get_or-set_other}
-use Rattle.std.proofs.Math.Bool.{true, false, cond}
-use native.Mathlib.Omega.{arith}
-use borrow.Author.Tests.{lt-ltb, le-ltb, ltb-true, eqb-true, not-true, not-false}
-use Rattle.std.proofs.Math.Dec.{ltb}
-use Rattle.std.proofs.lemmas.List.{length-map}
+use Rattle.std.specs.Prelude.{ℕ, zero, suc, ◌+◌, ◌-◌, ◌*◌, ◌/◌, ◌%◌, ◌<◌, ◌≤◌, ◌≡◌, Bool, not, List, [], ◌∷◌, ◌++◌, map, ◌⊎◌, eqb, length, get_or, take, drop, replicate}
+use Rattle.std.proofs.Common.{sym, subst, ◌∙◌, inl, inr, zero-add, add-zero, suc-add, add-suc, add-one, length-append, drop_of_length-le, drop-cons, get_or-take, length-take-le, refl, ap, true, false, cond, arith, lt-ltb, le-ltb, ltb-true, eqb-true, ltb}
+use borrow.Author.Tests.{not-true, not-false}
+use Rattle.std.proofs.lemmas.List.{length-map, length-replicate, get_or_append_left, get_or-append_right}
+use borrow.Rule.Slice.PartMut.{put_mid}
 use Rattle.kit.specs.Bools.{not_so}
 use Rattle.kit.specs.Claims.{pass}
-use Rattle.kit.specs.Lists.{get_or-replicate_same, get_d_part}
+use Rattle.kit.specs.Lists.{get_or-replicate_same, get_d_part, length_part}
 use Rattle.kit.specs.Pick.{side}
 use Rattle.kit.specs.Words.{word}
 use Rattle.texts.specs.Reading.{u2_at}
@@ -125,39 +122,36 @@ pub record Laid (args s g : List ℕ) (m : ℕ) : Type 0 where
   pub cells : (i : ℕ) → i < m → get_or s i 0 ≡ get_or args i 0
   pub tags : (i : ℕ) → i < m → get_or g i 0 ≡ 1
 
-pub laid_none : (args s g : List ℕ) → Laid args s g 0
-laid_none args s g = record { cells = λ i h. absurd (omega arith); tags = λ i h. absurd (omega arith) }
-
-same_before : (l : List ℕ) (i v k j : ℕ) (w : ℕ → ℕ) → i < length l → k ≡ v → ((j : ℕ) → j < i → get_or l j 0 ≡ w j) → v ≡ w i → j < i + 1 → get_or (set l i k) j 0 ≡ w j
-same_before l i v k j w h e old here b = go (side j i)
+-- as copying and filling the front leave them
+pub laid_part : (args s g m k : List ℕ) → m ≡ args → length args ≤ length g → k ≡ replicate (length (take (length args) g)) 1 → Laid args (m ++ drop (length args) s) (k ++ drop (length args) g) (length args)
+laid_part args s g m k e l p =
+    let z : length (take (length args) g) ≡ length args = length-take-le (length args) g l in
+    rw (e, p, z) (record {
+      cells = λ i h. get_or_append_left args (drop (length args) s) 0 i h;
+      tags = λ i h. get_or_append_left (replicate (length args) 1) (drop (length args) g) 0 i (rw (length-replicate) h) ∙ get_or-inside (length args) i 1 h;
+    })
   where
-    go : (j < i) ⊎ (i ≤ j) → get_or (set l i k) j 0 ≡ w j
-    go (inl c) = get_or-set_other l i j k 0 (λ z. omega arith) ∙ old j c
-    go (inr c) = let z : j ≡ i = omega arith in rw z (get_or-set_same l i k 0 h ∙ e ∙ here)
-
-pub laid_more : (args s g : List ℕ) (m v : ℕ) → m < length s → m < length g → v ≡ get_or args m 0 → Laid args s g m → Laid args (set s m v) (set g m 1) (m + 1)
-laid_more args s g m v hs hg e h = record {
-  cells = λ i b. same_before s m v v i (λ j. get_or args j 0) hs refl h.cells e b;
-  tags = λ i b. same_before g m 1 1 i (λ j. 1) hg refl h.tags refl b;
-}
+    get_or-inside : (n i v : ℕ) → i < n → get_or (replicate n v) i 0 ≡ v
+    get_or-inside zero i v h = absurd (omega arith)
+    get_or-inside (suc n) zero v h = refl
+    get_or-inside (suc n) (suc i) v h = get_or-inside n i v (omega arith)
 
 -- the tags from `from` up to m are those of no value, those in front stay
 pub record Emptied (g g' : List ℕ) (from m : ℕ) : Type 0 where
   pub before : (i : ℕ) → i < from → get_or g' i 0 ≡ get_or g i 0
   pub zeros : (i : ℕ) → from ≤ i → i < m → get_or g' i 0 ≡ 0
 
-pub emptied_none : (g : List ℕ) (from : ℕ) → Emptied g g from from
-emptied_none g from = record { before = λ i h. refl; zeros = λ i h b. absurd (omega arith) }
-
-pub emptied_more : (g g' : List ℕ) (from m : ℕ) → from ≤ m → m < length g' → Emptied g g' from m → Emptied g (set g' m 0) from (m + 1)
-emptied_more g g' from m l b h = record {
-  before = λ i q. get_or-set_other g' m i 0 0 (λ z. omega arith) ∙ h.before i q;
-  zeros = λ i p q. go i p q (side i m);
-}
-  where
-    go : (i : ℕ) → from ≤ i → i < m + 1 → (i < m) ⊎ (m ≤ i) → get_or (set g' m 0) i 0 ≡ 0
-    go i p q (inl c) = get_or-set_other g' m i 0 0 (λ z. omega arith) ∙ h.zeros i p c
-    go i p q (inr c) = let z : i ≡ m = omega arith in rw z (get_or-set_same g' m 0 0 b)
+-- as filling a part leaves them
+pub emptied_part : (g k : List ℕ) (from j : ℕ) → from ≤ 32 → 32 ≤ length g → j ≡ 32 - from → k ≡ replicate (length (take j (drop from g))) 0 → Emptied g (put_mid from j g k) from 32
+emptied_part g k from j h l e p =
+    let z : length (take j (drop from g)) ≡ 32 - from = rw e (length_part from (32 - from) g (omega arith)) in
+    let a : length (take from g) ≡ from = length-take-le from g (omega arith) in
+    rw (p, z) (record {
+      before = λ i b. get_or_append_left (take from g) _ 0 i (omega arith) ∙ get_or-take from g i 0 b;
+      zeros = λ i b c.
+          get_or-append_right (take from g) _ from i 0 a b
+          ∙ get_or_append_left (replicate (32 - from) 0) _ 0 (i - from) (rw (length-replicate) (omega arith)) ∙ get_or-replicate_same (32 - from) (i - from) 0;
+    })
 
 -- ---- read back
 locs_list : (w g : List ℕ) (b : ℕ) (vs : List Val) → ((i : ℕ) → i < length vs → val_at w g (b + i) ≡ get_or vs i empty) → locs_from w g b (length vs) ≡ vs

@@ -1,11 +1,7 @@
 -- What an instruction that returns comes to, by the code's tests. Assumes nothing.
-use Prim.Native.Nat.{ℕ, suc, ◌+◌, ◌-◌, ◌^◌, ◌<◌, ◌≤◌}
-use Rattle.std.specs.Prelude.{◌≡◌, refl, Bool, true, false, cond, not, eqb, length}
-use Rattle.std.proofs.Common.{sym, ◌∙◌}
-use Rattle.std.proofs.Math.Path.{ap}
-use mathlib.Core.List.{List, [], ◌∷◌}
-use native.Mathlib.Omega.{arith}
-use borrow.Author.Tests.{ne_eqb, eq-eqb, not-true, not-false}
+use Rattle.std.specs.Prelude.{Option as Found, Some, None, ◌≡◌, refl, Bool, true, false, cond, not, length}
+use Rattle.std.proofs.Common.{sym, ◌∙◌, ℕ, suc, ◌+◌, ◌-◌, ◌^◌, ◌<◌, ◌≤◌, ap, List, [], ◌∷◌, arith, ne_eqb, eq-eqb}
+use borrow.Author.Tests.{not-true, not-false}
 use Rattle.kit.specs.Bools.{not_so}
 use Rattle.classfiles.specs.Descriptors.{Desc, dint, dref}
 use Rattle.reader.specs.Program.{Program, Method}
@@ -22,35 +18,43 @@ use Rattle.plain.specs.Objects.{self_here, fits_here}
 use Rattle.plain.specs.ValueLaws.{value_of, value_empty}
 use Rattle.plain.specs.Windows.{val_at, ops_of}
 use Rattle.plain.specs.Calls.{window_at, frame_at, waiting}
-use Rattle.plain.specs.CallSteps.{Lent, Runs, going_of, Gives, back_last}
+use Rattle.plain.specs.CallSteps.{Lent, Runs, at_of, Gives, back_last}
 use Rattle.plain.specs.declared.frames.Frame.{Frame}
 use Rattle.plain.specs.declared.values.Value.{Value}
+use Rattle.plain.specs.declared.calls.Running.{Running}
 use Rattle.running.specs.declared.leaving.Left.{Left}
+use Rattle.running.specs.declared.leaving.Left.TheVariants.{Back, Out}
 use Rattle.running.specs.Standing.{records, method_by, Standing, innermost, standing-back, passed}
 use Rattle.running.specs.Calling.{entry_at, entry_small, results_are, parents_of}
 
--- ---- what the code's answer stands for: end 1 is out of the run, with a value unless its tag is empty's
-abbrev pub given_of : Value → List Val
-given_of v = cond (eqb v.tag 0) [] (value_of v.tag v.cell ∷ [])
+-- ---- what the code's answer stands for: back in a call, out of the run with what is returned, or stuck
+abbrev pub given_of : Found Value → List Val
+given_of None = []
+given_of (Some v) = value_of v.tag v.cell ∷ []
 
-abbrev pub left_of : Heap → List ℕ → List ℕ → List ℕ → Left → Result
-left_of H t s g r = cond (eqb r.going.end 1) (ended (returned (given_of r.value)) H) (going_of H t records s g r.going)
+abbrev pub left_of : Heap → List ℕ → List ℕ → List ℕ → Found Left → Result
+left_of H t s g None = stopped stuck
+left_of H t s g (Some (Back r)) = at_of H t records s g r
+left_of H t s g (Some (Out v)) = ended (returned (given_of v)) H
+
+-- what stands then: the call that goes on, or what stood before
+abbrev pub left_stands : (Running → Type 0) → Type 0 → Found Left → Type 0
+left_stands A B None = B
+left_stands A B (Some (Back r)) = A r
+left_stands A B (Some (Out v)) = B
 
 -- the outcome is what the definition says in every context that stands where the code does
-pub record Leaves (b : List ℕ) (n : ℕ) (t s g cells s' g' : List ℕ) (d : ℕ) (k : Frame) (r : Left) (what : Here → Result) : Type 0 where
+pub record Leaves (b : List ℕ) (n : ℕ) (t s g cells s' g' : List ℕ) (d : ℕ) (k : Frame) (r : Found Left) (what : Here → Result) : Type 0 where
   pub is : (x : Here) (used : ℕ) → Runs x t s g records d k → x.heap ≡ heap cells used → left_of (heap cells used) t s' g' r ≡ what x
-  pub stands : r.going.end ≡ 0 → Standing b n t s' g' r.going.depth r.going.call
-  pub kept : (r.going.end ≡ 0 → ⊥) → (s' ≡ s) × (g' ≡ g)
+  pub stands : left_stands (λ o. Standing b n t s' g' o.depth o.call) ((s' ≡ s) × (g' ≡ g)) r
 
 module _ (b : List ℕ) (n : ℕ) (t s g cells : List ℕ) (d : ℕ) (k : Frame) (what : Here → Result) where
-  pub leaves_stuck : (r : Left) → ((x : Here) (used : ℕ) → Runs x t s g records d k → x.heap ≡ heap cells used → what x ≡ stopped stuck) → r.going.end ≡ 6
-      → Leaves b n t s g cells s g d k r what
-  leaves_stuck r h e =
-      record { is = λ x used z q. rw e (sym (h x used z q)); stands = λ z. absurd (omega arith); kept = λ z. (refl, refl) }
+  pub leaves_stuck : ((x : Here) (used : ℕ) → Runs x t s g records d k → x.heap ≡ heap cells used → what x ≡ stopped stuck) → Leaves b n t s g cells s g d k None what
+  leaves_stuck h = record { is = λ x used z q. sym (h x used z q); stands = (refl, refl) }
 
-  pub leaves_as : (s' g' : List ℕ) (r : Left) (rest : Here → Result) → Leaves b n t s g cells s' g' d k r rest
+  pub leaves_as : (s' g' : List ℕ) (r : Found Left) (rest : Here → Result) → Leaves b n t s g cells s' g' d k r rest
       → ((x : Here) (used : ℕ) → Runs x t s g records d k → x.heap ≡ heap cells used → what x ≡ rest x) → Leaves b n t s g cells s' g' d k r what
-  leaves_as s' g' r rest z h = record { is = λ x used y q. z.is x used y q ∙ sym (h x used y q); stands = z.stands; kept = z.kept }
+  leaves_as s' g' r rest z h = record { is = λ x used y q. z.is x used y q ∙ sym (h x used y q); stands = z.stands }
 
 -- ---- once the value is known: a constructor's object is ready; back, or out of the run
 abbrev pub leave_by : List ℕ → ℕ → List ℕ → List Val → Here → Result
@@ -62,28 +66,23 @@ module _ (b : List ℕ) (n : ℕ) (t s g cells : List ℕ) (d : ℕ) (k : Frame)
   unfolding leave
   leave_is x used z q = rw (q, z.self, z.waiting, ← self_here cells used ok k.own e)
 
-  pub given-stuck : (r : Left) → not ok ≡ true → r.going.end ≡ 6 → Leaves b n t s g cells s g d k r (leave_by b n t rs)
-  given-stuck r f = leaves_stuck b n t s g cells d k (leave_by b n t rs) r (λ x used z q. leave_is x used z q ∙ rw (not-true ok f))
+  pub given-stuck : not ok ≡ true → Leaves b n t s g cells s g d k None (leave_by b n t rs)
+  given-stuck f = leaves_stuck b n t s g cells d k (leave_by b n t rs) (λ x used z q. leave_is x used z q ∙ rw (not-true ok f))
 
-  pub given_last : (r : Left) → not ok ≡ false → d ≡ 0 → r.going.end ≡ 1 → given_of r.value ≡ rs → Leaves b n t s g cells s g d k r (leave_by b n t rs)
-  given_last r f z y v = record {
-    is = λ x used w q. rw (y, v) (sym (leave_is x used w q ∙ rw (not-false ok f, z) (back_last (program_now b n t) (heap cells used) t s g records rs)));
-    stands = λ w. absurd (omega arith);
-    kept = λ w. (refl, refl);
+  pub given_last : (v : Found Value) → not ok ≡ false → d ≡ 0 → given_of v ≡ rs → Leaves b n t s g cells s g d k (Some (Out v)) (leave_by b n t rs)
+  given_last v f z y = record {
+    is = λ x used w q. rw y (sym (leave_is x used w q ∙ rw (not-false ok f, z) (back_last (program_now b n t) (heap cells used) t s g records rs)));
+    stands = (refl, refl);
   }
 
-  pub given_back : (s' g' : List ℕ) (r : Left) → not ok ≡ false → (d ≡ 0 → ⊥) → length rs ≤ length (method_by b n (front t) k.class k.method).results
-      → Gives t s g s' g' records d 3 rs r.going → Leaves b n t s g cells s' g' d k r (leave_by b n t rs)
+  pub given_back : (s' g' : List ℕ) (r : Running) → not ok ≡ false → (d ≡ 0 → ⊥) → length rs ≤ length (method_by b n (front t) k.class k.method).results
+      → Gives t s g s' g' records d 3 rs r → Leaves b n t s g cells s' g' d k (Some (Back r)) (leave_by b n t rs)
   given_back s' g' r f z l y =
       let p : 0 < d = omega arith in
       let w = innermost b n t s g d k h p in
       record {
-        is = λ x used v q.
-            let i : eqb r.going.end 1 ≡ false = ne_eqb r.going.end 1 (λ j. omega (arith, y.on.0)) in
-            ap (λ (c : Bool). cond c (ended (returned (given_of r.value)) (heap cells used)) (going_of (heap cells used) t records s' g' r.going)) i
-            ∙ y.is (program_now b n t) (heap cells used) w.call.size ∙ sym (leave_is x used v q ∙ rw (not-false ok f));
-        stands = λ o. rw y.on.1 (standing-back b n t s g d k h p s' g' (length rs) r.going.call (y.lent h.lent) l y.on.2);
-        kept = λ o. absurd (o y.on.0);
+        is = λ x used v q. y.is (program_now b n t) (heap cells used) w.call.size ∙ sym (leave_is x used v q ∙ rw (not-false ok f));
+        stands = rw y.on.0 (standing-back b n t s g d k h p s' g' (length rs) r.call (y.lent h.lent) l y.on.1);
       }
 
 -- what `back` asks of the call that waits
@@ -141,26 +140,20 @@ module _ (b : List ℕ) (n : ℕ) (t s g cells : List ℕ) (d : ℕ) (k : Frame)
     long : v ≡ length M.results
     long = e ∙ ap length (sym own_results)
 
-    pub return_unfit : (r : Left) → (v ≡ 0 → ⊥) → r.going.end ≡ 6 → Leaves b n t s g cells s g d k r (return_by b n t s g d k)
+    pub return_unfit : (v ≡ 0 → ⊥) → Leaves b n t s g cells s g d k None (return_by b n t s g d k)
     unfolding leave_with
-    return_unfit r z =
-        leaves_stuck b n t s g cells d k (return_by b n t s g d k) r
+    return_unfit z =
+        leaves_stuck b n t s g cells d k (return_by b n t s g d k)
         (λ x used y q. rw (method_here x y) (not_void M.results _ (λ i. z (long ∙ i))))
 
-    pub return-fit : (r : Left) → v ≡ 0 → Leaves b n t s g cells s g d k r (leave_by b n t []) → Leaves b n t s g cells s g d k r (return_by b n t s g d k)
+    pub return-fit : (r : Found Left) → v ≡ 0 → Leaves b n t s g cells s g d k r (leave_by b n t []) → Leaves b n t s g cells s g d k r (return_by b n t s g d k)
     unfolding leave_with
     return-fit r z y =
         leaves_as b n t s g cells d k (return_by b n t s g d k) s g r (leave_by b n t []) y
         (λ x used w q. rw (method_here x w) (void_by (program_now b n t) x M.results (ops_of (window_at s d) (window_at g d) k.operands) (sym long ∙ z)))
 
 -- ---- a value
-pub given_none : (v : Value) → v.tag ≡ 0 → given_of v ≡ []
-given_none v e = rw e
-
-pub given_one : (v : Value) → (v.tag ≡ 0 → ⊥) → given_of v ≡ value_of v.tag v.cell ∷ []
-given_one v h = rw (ne_eqb v.tag 0 h)
-
--- a value may be given where the method has a result
+-- it may be given where the method has a result
 pub record Giving (b : List ℕ) (n : ℕ) (t s g : List ℕ) (d : ℕ) (k : Frame) (v : Value) : Type 0 where
   pub standing : Standing b n t s g d k
   pub value : v.tag ≡ 0 → ⊥
@@ -194,10 +187,10 @@ module _ (b : List ℕ) (n : ℕ) (t s g cells : List ℕ) (d : ℕ) (k : Frame)
   as_results : (x : Here) → Runs x t s g records d k → (method_at P x).results ≡ result_of c
   as_results x z = ap (λ (N : Method). N.results) (method_here b n t s g cells d k h x z) ∙ own_results b n t s g cells d k h ∙ sym e
 
-  pub value_none : (r : Left) → c ≡ 256 → r.going.end ≡ 6 → Leaves b n t s g cells s g d k r what
+  pub value_none : c ≡ 256 → Leaves b n t s g cells s g d k None what
   unfolding leave_with result_of
-  value_none r z =
-      leaves_stuck b n t s g cells d k what r
+  value_none z =
+      leaves_stuck b n t s g cells d k what
       (λ x used y q. rw (as_results x y, eq-eqb c 256 z) (kind_none ints _))
 
   module _ (z : c ≡ 256 → ⊥) where
@@ -213,14 +206,14 @@ module _ (b : List ℕ) (n : ℕ) (t s g cells : List ℕ) (d : ℕ) (k : Frame)
     unfolding leave_with
     valued x y = rw (as_results x y, one_result)
 
-    pub value_kind : (r : Left) (o q : Bool) → o ≡ is_dint D → q ≡ cond ints o (not o) → not q ≡ true → r.going.end ≡ 6 → Leaves b n t s g cells s g d k r what
-    value_kind r o q eo eq f =
+    pub value_kind : (o q : Bool) → o ≡ is_dint D → q ≡ cond ints o (not o) → not q ≡ true → Leaves b n t s g cells s g d k None what
+    value_kind o q eo eq f =
         let w : is_kind ints (D ∷ []) ≡ false = kind_is ints D ∙ sym (eq ∙ ap (λ (i : Bool). cond ints i (not i)) eo) ∙ not-true q f in
-        leaves_stuck b n t s g cells d k what r (λ x used y i. valued x y ∙ rw w)
+        leaves_stuck b n t s g cells d k what (λ x used y i. valued x y ∙ rw w)
 
-    pub value_missing : (r : Left) → k.operands ≡ 0 → r.going.end ≡ 6 → Leaves b n t s g cells s g d k r what
+    pub value_missing : k.operands ≡ 0 → Leaves b n t s g cells s g d k None what
     unfolding pop_arguments ops_of
-    value_missing r o = leaves_stuck b n t s g cells d k what r (λ x used y i. valued x y ∙ rw o (stays_stuck (is_kind ints (D ∷ []))))
+    value_missing o = leaves_stuck b n t s g cells d k what (λ x used y i. valued x y ∙ rw o (stays_stuck (is_kind ints (D ∷ []))))
 
     module _ (o : k.operands ≡ 0 → ⊥) (v : Value) (ev : value_of v.tag v.cell ≡ val_at (window_at s d) (window_at g d) (32 + (k.operands - 1))) (q : Bool)
         (eq : q ≡ value_fits (lineage (front t) 25728 (11 + n)) (heap cells 0) D (value_of v.tag v.cell)) where
@@ -235,8 +228,8 @@ module _ (b : List ℕ) (n : ℕ) (t s g cells : List ℕ) (d : ℕ) (k : Frame)
           valued x y ∙ ap (λ (m : ℕ). only (is_kind ints (D ∷ [])) (pop_arguments P x.heap (D ∷ []) [] (ops_of (window_at s d) (window_at g d) m) (λ rs r. leave P x rs))) j
           ∙ rw (i, ← ev, ← w)
 
-      pub value_unfit : (r : Left) → not q ≡ true → r.going.end ≡ 6 → Leaves b n t s g cells s g d k r what
-      value_unfit r f = leaves_stuck b n t s g cells d k what r (λ x used y i. popped_one x used y i ∙ rw (not-true q f) (stays_stuck (is_kind ints (D ∷ []))))
+      pub value_unfit : not q ≡ true → Leaves b n t s g cells s g d k None what
+      value_unfit f = leaves_stuck b n t s g cells d k what (λ x used y i. popped_one x used y i ∙ rw (not-true q f) (stays_stuck (is_kind ints (D ∷ []))))
 
       module _ (f : not q ≡ false) where
         pub value_giving : Giving b n t s g d k v
@@ -246,7 +239,7 @@ module _ (b : List ℕ) (n : ℕ) (t s g cells : List ℕ) (d : ℕ) (k : Frame)
           one = rw (own_results b n t s g cells d k h, ← e, one_result) (omega arith);
         }
 
-        pub value_fit : (s' g' : List ℕ) (r : Left) (i u : Bool) → i ≡ is_dint D → u ≡ cond ints i (not i) → not u ≡ false
+        pub value_fit : (s' g' : List ℕ) (r : Found Left) (i u : Bool) → i ≡ is_dint D → u ≡ cond ints i (not i) → not u ≡ false
             → Leaves b n t s g cells s' g' d k r (leave_by b n t (given ∷ [])) → Leaves b n t s g cells s' g' d k r what
         value_fit s' g' r i u ei eu y w =
             let a : is_kind ints (D ∷ []) ≡ true = kind_is ints D ∙ sym (eu ∙ ap (λ (j : Bool). cond ints j (not j)) ei) ∙ not-false u y in

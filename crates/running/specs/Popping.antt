@@ -1,14 +1,8 @@
 -- A callee's arguments by the types that the tables keep of it: the code's test of each, and what is left of the operands. Assumes nothing.
-use Prim.Native.Nat.{ℕ, zero, suc, ◌+◌, ◌-◌, ◌*◌, ◌<◌, ◌≤◌}
-use Rattle.std.specs.Prelude.{◌≡◌, refl, true, false, ◌&&◌, take, drop}
-use Rattle.std.proofs.Math.Path.{sym, ap}
-use Rattle.std.proofs.Common.{subst, ◌∙◌, eq-eqb, ne_eqb}
-use Rattle.std.proofs.Math.Bool.{Bool}
-use mathlib.Core.List.{List, [], ◌∷◌, ◌++◌, reverse, reverse_aux, append_assoc, append-nil}
-use Rattle.std.proofs.Math.Nat.{add-zero, add-suc}
-use Rattle.std.proofs.Math.Numerals.{add-one}
-use native.Mathlib.Omega.{arith}
-use Rattle.std.proofs.Math.ListN.{length, get_or}
+use Rattle.std.specs.Prelude.{Option as Found, Some, None, Bool, not, ◌≡◌, refl, true, false, ◌&&◌, take, drop}
+use Rattle.std.proofs.Common.{subst, ◌∙◌, eq-eqb, ne_eqb, ℕ, zero, suc, ◌+◌, ◌-◌, ◌*◌, ◌<◌, ◌≤◌, sym, ap, List, [], ◌∷◌, ◌++◌, reverse, append_assoc, append-nil, add-zero, add-suc, add-one, arith, length, get_or}
+use mathlib.Core.List.{reverse_aux}
+use Rattle.std.proofs.lemmas.Bool.{not-true, not-false}
 use Rattle.kit.specs.Bools.{not_so}
 use Rattle.kit.specs.Lists.{length_part, get_d_part}
 use Rattle.kit.specs.Scan.{all_of, all_none, all_more, all_same}
@@ -34,12 +28,25 @@ use Rattle.running.specs.declared.popping.Popped.{Popped}
 unfoldable pub param_fits : Program → List ℕ → ℕ → List ℕ → List ℕ → List ℕ → ℕ → ℕ → Bool
 param_fits L t e cells w g left i = value_fits L (heap cells 0) (get_or (params_in t e) i dint) (val_at w g (32 + left + i))
 
+-- whether the arguments are there and fit; how many operands are left below them, and how many they are
+pub record Taking : Type 0 where
+  pub ok : Bool
+  pub left : ℕ
+  pub count : ℕ
+
+abbrev pub taken_of : Popped → Taking
+taken_of p = record { ok = true; left = p.left; count = p.count }
+
+abbrev pub taking_of : Found Popped → Taking
+taking_of None = record { ok = false; left = 0; count = 0 }
+taking_of (Some p) = taken_of p
+
 -- what is left once the arguments are gone: stuck unless they are there and fit
-pub record Pops (t : List ℕ) (kin : Kin) (cells w g : List ℕ) (e have : ℕ) (r : Popped) : Type 0 where
+pub record Pops (t : List ℕ) (kin : Kin) (cells w g : List ℕ) (e have : ℕ) (r : Taking) : Type 0 where
   pub is : (P : Program) (used : ℕ) → Parents P t kin.at kin.count → (k : List Val → List Val → Result)
       → pop_arguments P (heap cells used) (reverse (params_in t e)) [] (ops_of w g have) k
       ≡ only r.ok (k (locs_from w g (32 + r.left) r.count) (ops_of w g r.left))
-  pub count : r.count ≡ length (params_in t e)
+  pub count : r.ok ≡ true → r.count ≡ length (params_in t e)
   pub all : r.ok ≡ true → r.left + r.count ≡ have
 
 -- ---- arguments from the last to the first
@@ -82,10 +89,10 @@ module _ (t : List ℕ) (kin : Kin) (cells w g : List ℕ) (e have n : ℕ) (l :
   unfolding params_in codes_in
   types = ap (listed at) (sym (l ∙ params-length t e))
 
-  pub pops_few : have < n → Pops t kin cells w g e have (record { ok = false; left = 0; count = n })
+  pub pops_few : have < n → Pops t kin cells w g e have (taking_of None)
   pops_few h = record {
     is = λ P used p k. rw types (pop_few P (heap cells used) w g at have n [] k h);
-    count = l;
+    count = λ q. absurd (let z : false ≡ true = q in not_so z);
     all = λ q. absurd (let z : false ≡ true = q in not_so z);
   }
 
@@ -97,7 +104,7 @@ module _ (t : List ℕ) (kin : Kin) (cells w g : List ℕ) (e have n : ℕ) (l :
       let z : at i ≡ get_or (params_in t e) i dint = sym (ap (λ (ds : List Desc). get_or ds i dint) types ∙ listed_at at n i dint h) in
       rw z (sym (fits_here cells used (value_fits (lineage t kin.at kin.count) (heap cells 0) (get_or (params_in t e) i dint) v) P t kin.at kin.count p (get_or (params_in t e) i dint) v refl))
 
-  pub pops_all : (ok : Bool) → n ≤ have → ok ≡ all_of (param_fits (lineage t kin.at kin.count) t e cells w g (have - n)) n
+  pops_all : (ok : Bool) → n ≤ have → ok ≡ all_of (param_fits (lineage t kin.at kin.count) t e cells w g (have - n)) n
       → Pops t kin cells w g e have (record { ok = ok; left = have - n; count = n })
   pops_all ok h q = record {
     is = λ P used p k.
@@ -110,9 +117,22 @@ module _ (t : List ℕ) (kin : Kin) (cells w g : List ℕ) (e have n : ℕ) (l :
           all_same (λ i. value_fits P (heap cells used) (at i) (val_at w g (32 + (have - n) + i))) (param_fits (lineage t kin.at kin.count) t e cells w g (have - n)) n (λ i y. one-fits P used (have - n) i p y),
           append-nil (locs_from w g (32 + (have - n)) n),
         ));
-    count = l;
+    count = λ y. l;
     all = λ y. omega arith;
   }
+
+  module _ (ok : Bool) (h : n ≤ have) (q : ok ≡ all_of (param_fits (lineage t kin.at kin.count) t e cells w g (have - n)) n) where
+    pub pops_unfit : not ok ≡ true → Pops t kin cells w g e have (taking_of None)
+    pops_unfit f =
+        let z : Pops t kin cells w g e have (record { ok = false; left = have - n; count = n }) = subst (λ (v : Bool). Pops t kin cells w g e have (record { ok = v; left = have - n; count = n })) (not-true ok f) (pops_all ok h q) in
+        record {
+          is = z.is;
+          count = λ y. absurd (let z : false ≡ true = y in not_so z);
+          all = λ y. absurd (let z : false ≡ true = y in not_so z);
+        }
+
+    pub pops_fit : not ok ≡ false → Pops t kin cells w g e have (taking_of (Some (record { left = have - n; count = n })))
+    pops_fit f = subst (λ (v : Bool). Pops t kin cells w g e have (record { ok = v; left = have - n; count = n })) (not-false ok f) (pops_all ok h q)
 
 -- ---- how many results
 module _ (t : List ℕ) (e v : ℕ) (h : result_of v ≡ results_in t e) where
@@ -144,7 +164,7 @@ module _ (l : List ℕ) (d : ℕ) where
   pub part_long : length l ≡ 4096 → d < 64 → length cut ≡ 64
   part_long h b = ap length part_is ∙ length_part (64 * d) 64 l (omega arith)
 
-pub pops_window : (t : List ℕ) (kin : Kin) (cells s g : List ℕ) (d e have : ℕ) (r : Popped)
+pub pops_window : (t : List ℕ) (kin : Kin) (cells s g : List ℕ) (d e have : ℕ) (r : Taking)
     → Pops t kin cells (cut s d) (cut g d) e have r → Pops t kin cells (window_at s d) (window_at g d) e have r
 pops_window t kin cells s g d e have r h =
     subst (λ (w : List ℕ). Pops t kin cells w (window_at g d) e have r) (part_is s d) (subst (λ (w : List ℕ). Pops t kin cells (cut s d) w e have r) (part_is g d) h)

@@ -1,11 +1,7 @@
 -- Calls with a receiver: what stands below the arguments, and a constructor's call. Assumes nothing.
-use Prim.Native.Nat.{ℕ, zero, suc, ◌+◌, ◌-◌, ◌<◌, ◌≤◌}
-use Rattle.std.specs.Prelude.{◌≡◌, Bool, true, false, cond, not, ◌⊎◌, eqb, leb, ltb, length, get_or, set}
-use Rattle.std.proofs.Math.Path.{refl, ap}
-use Rattle.std.proofs.Common.{sym, ◌∙◌, inl, inr, add-suc}
-use mathlib.Core.List.{List, [], ◌∷◌, reverse}
-use native.Mathlib.Omega.{arith}
-use borrow.Author.Tests.{le-leb, lt-ltb, le-ltb, not-true, not-false}
+use Rattle.std.specs.Prelude.{Ok, Err, ◌≡◌, Bool, true, false, cond, not, ◌⊎◌, eqb, leb, ltb, length, get_or, set}
+use Rattle.std.proofs.Common.{sym, ◌∙◌, inl, inr, add-suc, ℕ, zero, suc, ◌+◌, ◌-◌, ◌<◌, ◌≤◌, refl, ap, List, [], ◌∷◌, reverse, arith, le-leb, lt-ltb, le-ltb}
+use borrow.Author.Tests.{not-true, not-false}
 use Rattle.std.proofs.Math.ListN.{get_or-eq_default}
 use Rattle.kit.specs.Bools.{not_so}
 use Rattle.kit.specs.Lists.{eq_list}
@@ -32,16 +28,15 @@ use Rattle.plain.specs.ValueLaws.{value_of}
 use Rattle.plain.specs.Objects.{unmade, unready_by, unmade_here}
 use Rattle.plain.specs.Windows.{val_at, locs_from, ops_of, length_ops}
 use Rattle.plain.specs.Calls.{window_at}
-use Rattle.plain.specs.CallSteps.{going_of}
+use Rattle.plain.specs.CallSteps.{Going, going_of}
 use Rattle.rules.specs.declared.site.Site.{Site}
 use Rattle.rules.specs.declared.instruction.Callee.{Callee}
 use Rattle.plain.specs.declared.frames.Frame.{Frame}
-use Rattle.plain.specs.declared.calls.Going.{Going}
+use Rattle.plain.specs.declared.window.Halt.TheVariants.{Stuck}
 use Rattle.plain.specs.declared.values.Value.{Value}
-use Rattle.running.specs.declared.popping.Popped.{Popped}
 use Rattle.running.specs.declared.entering.Way.{Way}
 use Rattle.running.specs.Standing.{records, Row, method_by, passed, standing-turn}
-use Rattle.running.specs.Popping.{Pops, kin_of}
+use Rattle.running.specs.Popping.{Taking, Pops, kin_of}
 use Rattle.running.specs.Entering.{Enterable, Into}
 use Rattle.running.specs.Calling.{At, Called, called-stuck, called_into, Calling, entry_at, entry_small, params_are, results_are, parents_of, args_fit}
 
@@ -51,7 +46,7 @@ unfolding locs_from
 args_below w g l n = rw (add-suc 32 l)
 
 -- popped with an operand left, or none
-module _ (P : Program) (H : Heap) (ds : List Desc) (vs : List Val) (w g : List ℕ) (p : Popped) (K : List Val → Val → List Val → Result)
+module _ (P : Program) (H : Heap) (ds : List Desc) (vs : List Val) (w g : List ℕ) (p : Taking) (K : List Val → Val → List Val → Result)
     (z : (k : List Val → List Val → Result) → pop_arguments P H ds [] vs k ≡ only p.ok (k (locs_from w g (32 + p.left) p.count) (ops_of w g p.left))) where
   abbrev taken : Result
   taken = pop_arguments P H ds [] vs (λ args r. pop_any r (λ v r'. K args v r'))
@@ -114,7 +109,7 @@ pub record InitCall (b t s g : List ℕ) (x : Site) (d : ℕ) (k : Frame) (m : C
 abbrev pub init_by : List ℕ → List ℕ → List ℕ → List ℕ → Site → ℕ → Frame → Callee → Here → Result
 init_by b t s g x d k m y = call_init (program_now b x.classes t) y (callee_of m) (ops_of (window_at s d) (window_at g d) k.operands)
 
-module _ (b t s g : List ℕ) (x : Site) (d : ℕ) (k : Frame) (m : Callee) (h : InitCall b t s g x d k m) (cells : List ℕ) (p : Popped) where
+module _ (b t s g : List ℕ) (x : Site) (d : ℕ) (k : Frame) (m : Callee) (h : InitCall b t s g x d k m) (cells : List ℕ) (p : Taking) where
   abbrev n : ℕ
   n = x.classes
 
@@ -144,12 +139,12 @@ module _ (b t s g : List ℕ) (x : Site) (d : ℕ) (k : Frame) (m : Callee) (h :
     unfolding call_init
     by y used e = rw e
 
-    pub init_unfit : (r : Going) → p.ok ≡ false → r.end ≡ 6 → Called b n t s g cells t s g cells d k r what
-    init_unfit r e = called-stuck b n t s g cells d k what r (λ y used a. by y used a.heap ∙ taken_unfit P (heap cells used) _ _ W G p _ (z used) e)
+    pub init_unfit : p.ok ≡ false → Called b n t s g cells t s g cells d k (Err Stuck) what
+    init_unfit e = called-stuck b n t s g cells d k what (λ y used a. by y used a.heap ∙ taken_unfit P (heap cells used) _ _ W G p _ (z used) e)
 
     module _ (e : p.ok ≡ true) where
-      pub init_none : (r : Going) → p.left ≡ 0 → r.end ≡ 6 → Called b n t s g cells t s g cells d k r what
-      init_none r o = called-stuck b n t s g cells d k what r (λ y used a. by y used a.heap ∙ taken_none P (heap cells used) _ _ W G p _ (z used) e o)
+      pub init_none : p.left ≡ 0 → Called b n t s g cells t s g cells d k (Err Stuck) what
+      init_none o = called-stuck b n t s g cells d k what (λ y used a. by y used a.heap ∙ taken_none P (heap cells used) _ _ W G p _ (z used) e o)
 
       module _ (o : p.left ≡ 0 → ⊥) (v : Value) (ev : value_of v.tag v.cell ≡ val_at W G (32 + (p.left - 1))) (q : Bool)
           (eq : q ≡ unmade (lineage (front t) 25728 (11 + n)) (heap cells 0) (cls m.named) (value_of v.tag v.cell)) where
@@ -166,8 +161,8 @@ module _ (b t s g : List ℕ) (x : Site) (d : ℕ) (k : Frame) (m : Callee) (h :
             ∙ rw (← ev, unmade_here cells used q P (front t) 25728 (11 + n) (parents_of b n t h.at.standing.ready) (cls m.named) given eq)
             (unready_by P (heap cells used) m.named given _)
 
-        pub init-made : (r : Going) → not q ≡ true → r.end ≡ 6 → Called b n t s g cells t s g cells d k r what
-        init-made r f = called-stuck b n t s g cells d k what r (λ y used a. init_is y used a ∙ rw (not-true q f))
+        pub init-made : not q ≡ true → Called b n t s g cells t s g cells d k (Err Stuck) what
+        init-made f = called-stuck b n t s g cells d k what (λ y used a. init_is y used a ∙ rw (not-true q f))
 
         module _ (f : not q ≡ false) where
           is-ref : (given ≡ ref v.cell) × (suc (v.cell - 1) ≡ v.cell)
@@ -215,19 +210,19 @@ module _ (b t s g : List ℕ) (x : Site) (d : ℕ) (k : Frame) (m : Callee) (h :
             after = record { class = k.class; method = k.method; offset = k.offset + 3; own = k.own; operands = p.left - 1; locals = k.locals }
 
             pub init-ready : (cells' : List ℕ) → cells' ≡ set cells (v.cell - 1 + 3) 1
-                → Called b n t s g cells t s g cells' d k (record { end = 0; depth = d; call = after }) what
+                → Called b n t s g cells t s g cells' d k (Ok (record { depth = d; call = after })) what
             unfolding construct go_on mark_ready store
             init-ready cells' i = record {
               is = λ y used a. rw i (sym (init_is y used a ∙ rw (not-false q f, lt-ltb m.owner 11 l) (gone y used a)));
-              stands = λ c. standing-turn b n t s g s g d k after h.at.standing h.at.standing.lent refl refl refl (omega (arith, w, h.at.standing.running.operands)) h.at.call.behind;
-              kept = λ c. absurd (c refl);
+              stands = standing-turn b n t s g s g d k after h.at.standing h.at.standing.lent refl refl refl (omega (arith, w, h.at.standing.running.operands)) h.at.call.behind;
+              kept = tt;
               besides = besides_none records 384 t;
             }
               where
                 gone : (y : Here) (used : ℕ) → At t s g cells used d k y
                     → only (leb (length (ops_of W G (p.left - 1))) (body (method P y.class y.index)).max_stack)
                     (next (resumed y (heap (set y.heap.cells (to_cell given - 1 + 3) 1) y.heap.used) y.after y.locals (ops_of W G (p.left - 1))))
-                    ≡ going_of (heap (set cells (v.cell - 1 + 3) 1) used) t records s g (record { end = 0; depth = d; call = after })
+                    ≡ going_of P y (heap (set cells (v.cell - 1 + 3) 1) used) t records s g (Ok (record { depth = d; call = after }))
                 gone y used a =
                     rw (
                       length_ops W G (p.left - 1),
@@ -267,7 +262,7 @@ results_few f e = go (ltb (get_or f (types_of e) 0) 32)
 
 -- of a built-in class, which takes no arguments
 module _ (b t s g : List ℕ) (x : Site) (d : ℕ) (k : Frame) (m : Callee) (h : InitCall b t s g x d k m) (cells : List ℕ) (l : m.owner < 11) where
-  abbrev whole : Popped
+  abbrev whole : Taking
   whole = record { ok = true; left = k.operands; count = 0 }
 
   abbrev say : Here → Result
@@ -276,19 +271,19 @@ module _ (b t s g : List ℕ) (x : Site) (d : ℕ) (k : Frame) (m : Callee) (h :
   had : Taken b t s g x d k m h cells whole
   had = taken_built b t s g x d k m h cells whole l refl
 
-  pub built_none : (r : Going) → k.operands ≡ 0 → r.end ≡ 6 → Called b x.classes t s g cells t s g cells d k r say
-  built_none r o e = init_none b t s g x d k m h cells whole had refl r o e
+  pub built_none : k.operands ≡ 0 → Called b x.classes t s g cells t s g cells d k (Err Stuck) say
+  built_none o = init_none b t s g x d k m h cells whole had refl o
 
   module _ (o : k.operands ≡ 0 → ⊥) (v : Value) (ev : value_of v.tag v.cell ≡ val_at (window_at s d) (window_at g d) (32 + (k.operands - 1))) (q : Bool)
       (eq : q ≡ unmade (lineage (front t) 25728 (11 + x.classes)) (heap cells 0) (cls m.named) (value_of v.tag v.cell)) where
-    pub built_made : (r : Going) → not q ≡ true → r.end ≡ 6 → Called b x.classes t s g cells t s g cells d k r say
-    built_made r f e = init-made b t s g x d k m h cells whole had refl o v ev q eq r f e
+    pub built_made : not q ≡ true → Called b x.classes t s g cells t s g cells d k (Err Stuck) say
+    built_made f = init-made b t s g x d k m h cells whole had refl o v ev q eq f
 
     pub built_some : not q ≡ false → 1 ≤ v.cell
     built_some f = init_some b t s g x d k m h cells whole had refl o v ev q eq f
 
     pub built_ready : not q ≡ false → (cells' : List ℕ) → cells' ≡ set cells (v.cell - 1 + 3) 1
-        → Called b x.classes t s g cells t s g cells' d k (record { end = 0; depth = d; call = record { class = k.class; method = k.method; offset = k.offset + 3; own = k.own; operands = k.operands - 1; locals = k.locals } }) say
+        → Called b x.classes t s g cells t s g cells' d k (Ok (record { depth = d; call = record { class = k.class; method = k.method; offset = k.offset + 3; own = k.own; operands = k.operands - 1; locals = k.locals } })) say
     built_ready f cells' i = init-ready b t s g x d k m h cells whole had refl o v ev q eq f l (omega arith) cells' i
 
 -- of a class of the bundle
@@ -299,27 +294,24 @@ module _ (b t s g : List ℕ) (x : Site) (d : ℕ) (k : Frame) (m : Callee) (h :
   pub own-entry : entry_at m.owner m.index < 1024
   own-entry = entry_small b x.classes t h.at.standing.ready m.owner m.index in_rows
 
-  module _ (cells : List ℕ) (p : Popped) (z : Pops (front t) (kin_of x.classes) cells (window_at s d) (window_at g d) (entry_at m.owner m.index) k.operands p) where
+  module _ (cells : List ℕ) (p : Taking) (z : Pops (front t) (kin_of x.classes) cells (window_at s d) (window_at g d) (entry_at m.owner m.index) k.operands p) where
     abbrev tell : Here → Result
     tell = init_by b t s g x d k m
 
     got : Taken b t s g x d k m h cells p
     got = taken_by b t s g x d k m h cells p in_rows z
 
-    pub own_unfit : (r : Going) → not p.ok ≡ true → r.end ≡ 6 → Called b x.classes t s g cells t s g cells d k r tell
-    own_unfit r e = init_unfit b t s g x d k m h cells p got r (not-true p.ok e)
+    pub own_unfit : p.ok ≡ false → Called b x.classes t s g cells t s g cells d k (Err Stuck) tell
+    own_unfit e = init_unfit b t s g x d k m h cells p got e
 
-    module _ (e : not p.ok ≡ false) where
-      yes : p.ok ≡ true
-      yes = not-false p.ok e
-
-      pub own_none : (r : Going) → p.left ≡ 0 → r.end ≡ 6 → Called b x.classes t s g cells t s g cells d k r tell
-      own_none r o i = init_none b t s g x d k m h cells p got yes r o i
+    module _ (yes : p.ok ≡ true) where
+      pub own_none : p.left ≡ 0 → Called b x.classes t s g cells t s g cells d k (Err Stuck) tell
+      own_none o = init_none b t s g x d k m h cells p got yes o
 
       module _ (o : p.left ≡ 0 → ⊥) (v : Value) (ev : value_of v.tag v.cell ≡ val_at (window_at s d) (window_at g d) (32 + (p.left - 1))) (q : Bool)
           (eq : q ≡ unmade (lineage (front t) 25728 (11 + x.classes)) (heap cells 0) (cls m.named) (value_of v.tag v.cell)) where
-        pub own_made : (r : Going) → not q ≡ true → r.end ≡ 6 → Called b x.classes t s g cells t s g cells d k r tell
-        own_made r f i = init-made b t s g x d k m h cells p got yes o v ev q eq r f i
+        pub own_made : not q ≡ true → Called b x.classes t s g cells t s g cells d k (Err Stuck) tell
+        own_made f = init-made b t s g x d k m h cells p got yes o v ev q eq f
 
         module _ (f : not q ≡ false) where
           abbrev path : Way
@@ -327,7 +319,7 @@ module _ (b t s g : List ℕ) (x : Site) (d : ℕ) (k : Frame) (m : Callee) (h :
 
           pub own_enterable : Enterable b x.classes t s g d k path
           own_enterable =
-              init_enterable b t s g x d k m h cells p got yes o v ev q eq f l (z.count ∙ ap length (sym (params_are b x.classes t h.at.standing.ready m.owner m.index in_rows))) (z.all yes)
+              init_enterable b t s g x d k m h cells p got yes o v ev q eq f l (z.count yes ∙ ap length (sym (params_are b x.classes t h.at.standing.ready m.owner m.index in_rows))) (z.all yes)
               (rw (results_are b x.classes t h.at.standing.ready m.owner m.index in_rows) (results_few (front t) (entry_at m.owner m.index)))
 
           pub own_into : (t' s' g' : List ℕ) (r : Going) → Into b x.classes t s g t' s' g' d k path r → Called b x.classes t s g cells t' s' g' cells d k r tell

@@ -1,30 +1,36 @@
 -- Where a call leads: into a method, with the operands that go along, or why not. Assumes nothing.
-use Rattle.std.specs.Prelude.{ℕ, ◌<◌, ◌≡◌, refl, List}
-use Rattle.std.proofs.Common.{◌∙◌, arith}
+use Rattle.std.specs.Prelude.{Result as Answer, Ok, Err, ℕ, List}
 use Rattle.plain.specs.Machine.{Here, Result}
 use Rattle.plain.specs.declared.frames.Frame.{Frame}
-use Rattle.plain.specs.declared.calls.Going.{Going}
+use Rattle.plain.specs.CallSteps.{Going}
+use Rattle.plain.specs.declared.window.Halt.{Halt}
 use Rattle.running.specs.declared.entering.Way.{Way}
-use Rattle.running.specs.declared.calling.Route.{Route}
 use Rattle.running.specs.Entering.{Enterable, Into}
 use Rattle.running.specs.Calling.{Called}
 
--- whoever stops with its end, or goes its way, does what is said of the call
+abbrev pub Route : Type 0
+Route = Answer Way Halt
+
+-- whoever stops with its halt, or goes its way, does what is said of the call
+abbrev pub routed : (List ℕ → ℕ → List ℕ → List ℕ → List ℕ → List ℕ → ℕ → Frame → (Here → Result) → Route → Type 0)
+routed b n t s g cells d k what (Err h) = Called b n t s g cells t s g cells d k (Err h) what
+routed b n t s g cells d k what (Ok y) =
+    Enterable b n t s g d k y × ((t' s' g' : List ℕ) (r : Going) → Into b n t s g t' s' g' d k y r → Called b n t s g cells t' s' g' cells d k r what)
+
 pub record Routes (b : List ℕ) (n : ℕ) (t s g cells : List ℕ) (d : ℕ) (k : Frame) (what : Here → Result) (q : Route) : Type 0 where
-  pub off : (q.end ≡ 0 → ⊥) → (r : Going) → r.end ≡ q.end → Called b n t s g cells t s g cells d k r what
-  pub asked : q.end ≡ 0 → Enterable b n t s g d k q.way
-  pub on : q.end ≡ 0 → (t' s' g' : List ℕ) (r : Going) → Into b n t s g t' s' g' d k q.way r → Called b n t s g cells t' s' g' cells d k r what
+  pub is : routed b n t s g cells d k what q
 
 module _ (b : List ℕ) (n : ℕ) (t s g cells : List ℕ) (d : ℕ) (k : Frame) (what : Here → Result) where
-  pub routes_off : (q : Route) (i : ℕ) → q.end ≡ i → 0 < i → ((r : Going) → r.end ≡ i → Called b n t s g cells t s g cells d k r what) → Routes b n t s g cells d k what q
-  routes_off q i e l h = record { off = λ z r y. h r (y ∙ e); asked = λ z. absurd (omega arith); on = λ z. absurd (omega arith) }
+  pub routes_off : (h : Halt) → Called b n t s g cells t s g cells d k (Err h) what → Routes b n t s g cells d k what (Err h)
+  routes_off h c = record { is = c }
 
   pub routes_on : (y : Way) → Enterable b n t s g d k y
       → ((t' s' g' : List ℕ) (r : Going) → Into b n t s g t' s' g' d k y r → Called b n t s g cells t' s' g' cells d k r what)
-      → Routes b n t s g cells d k what (record { end = 0; way = y })
-  routes_on y a h = record { off = λ z. absurd (z refl); asked = λ z. a; on = λ z. h }
+      → Routes b n t s g cells d k what (Ok y)
+  routes_on y a h = record { is = (a, h) }
 
   -- as part of another
   pub routes_as : (whole : Here → Result) → ((t' s' g' : List ℕ) (r : Going) → Called b n t s g cells t' s' g' cells d k r what → Called b n t s g cells t' s' g' cells d k r whole)
       → (q : Route) → Routes b n t s g cells d k what q → Routes b n t s g cells d k whole q
-  routes_as whole f q h = record { off = λ z r y. f t s g r (h.off z r y); asked = h.asked; on = λ z t' s' g' r i. f t' s' g' r (h.on z t' s' g' r i) }
+  routes_as whole f (Err h) c = record { is = f t s g (Err h) c.is }
+  routes_as whole f (Ok y) c = record { is = (c.is.0, λ t' s' g' r i. f t' s' g' r (c.is.1 t' s' g' r i)) }

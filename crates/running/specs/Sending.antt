@@ -1,8 +1,6 @@
 -- An instruction that calls, whichever of the three it is. Assumes nothing.
-use Rattle.std.specs.Prelude.{ℕ, ◌+◌, ◌<◌, ◌≤◌, ◌≡◌, true, false, not, List, length}
-use Rattle.std.proofs.Common.{sym, ap, ◌∙◌, arith}
-use Rattle.std.proofs.Math.Path.{subst}
-use Rattle.std.proofs.lemmas.Bool.{not-true, not-false}
+use Rattle.std.specs.Prelude.{refl, Ok, Err, None, ℕ, ◌+◌, ◌<◌, ◌≤◌, ◌≡◌, List, length}
+use Rattle.std.proofs.Common.{sym, ap, ◌∙◌, arith, subst}
 use Rattle.reader.specs.TypeCodes.{results_in}
 use Rattle.rules.specs.InstructionWords.{call_of}
 use Rattle.rules.specs.Known.{callee_in}
@@ -17,14 +15,14 @@ use Rattle.plain.specs.Step.{execute}
 use Rattle.plain.specs.Windows.{ops_of}
 use Rattle.plain.specs.Calls.{window_at}
 use Rattle.plain.specs.declared.frames.Frame.{Frame}
-use Rattle.plain.specs.declared.calls.Going.{Going}
+use Rattle.plain.specs.CallSteps.{Going}
+use Rattle.plain.specs.declared.window.Halt.TheVariants.{Stuck}
 use Rattle.running.specs.declared.popping.Popped.{Popped}
-use Rattle.running.specs.declared.calling.Route.{Route}
-use Rattle.running.specs.Popping.{Pops, kin_of}
+use Rattle.running.specs.Popping.{taken_of, taking_of, Pops, kin_of}
 use Rattle.running.specs.Calling.{Called, Calling, entry_at, entry_small, StaticCall, static_by, static_of, static_entry, static_unfit, static_enterable, static_into}
 use Rattle.running.specs.Receiving.{InitCall, init_by, own-entry, own_unfit}
 use Rattle.running.specs.Virtual.{VirtualCall, virtual_by, virtual_unfit}
-use Rattle.running.specs.Routes.{Routes, routes_on, routes_as}
+use Rattle.running.specs.Routes.{Route, Routes, routes_on, routes_as}
 
 -- what each of the three asks for
 abbrev pub CallReady : List ℕ → List ℕ → List ℕ → List ℕ → Site → ℕ → Frame → Call → Type 0
@@ -37,8 +35,7 @@ call_by b t s g x d k i y = execute (program_now b x.classes t) y (ops_of (windo
 
 -- the arguments were there and fitted
 pub record Paid (t s g cells : List ℕ) (x : Site) (d : ℕ) (k : Frame) (m : Callee) (p : Popped) : Type 0 where
-  pub pops : Pops (front t) (kin_of x.classes) cells (window_at s d) (window_at g d) (entry_at m.owner m.index) k.operands p
-  pub ok : not p.ok ≡ false
+  pub pops : Pops (front t) (kin_of x.classes) cells (window_at s d) (window_at g d) (entry_at m.owner m.index) k.operands (taken_of p)
 
 module _ (b t s g : List ℕ) (x : Site) (d : ℕ) (k : Frame) where
   pub ready_at_lem : (i : Call) → CallReady b t s g x d k i → Calling b t s g x d k
@@ -101,20 +98,20 @@ module _ (b t s g : List ℕ) (x : Site) (d : ℕ) (k : Frame) where
   -- a static call that has room for v results
   pub static_goes : (m : Callee) (h : StaticCall b t s g x d k m) (cells : List ℕ) (p : Popped) → Paid t s g cells x d k m p
       → (e v : ℕ) → e ≡ entry_at m.owner m.index → v ≡ length (results_in (front t) e) → v + p.left ≤ x.stack
-      → Routes b x.classes t s g cells d k (static_by b t s g x d k m) (record { end = 0; way = record { class = m.owner; method = m.index; own = 0; left = p.left; count = p.count } })
+      → Routes b x.classes t s g cells d k (static_by b t s g x d k m) (Ok (record { class = m.owner; method = m.index; own = 0; left = p.left; count = p.count }))
   static_goes m h cells p z e v ee ev l =
       let w : v ≡ length (results_in (front t) (entry_at m.owner m.index)) = ev ∙ ap (λ (i : ℕ). length (results_in (front t) i)) ee in
       routes_on b x.classes t s g cells d k (static_by b t s g x d k m) _
-      (static_enterable b t s g x d k m h cells p z.pops v w (not-false p.ok z.ok) l) (static_into b t s g x d k m h cells p z.pops v w (not-false p.ok z.ok) l)
+      (static_enterable b t s g x d k m h cells (taken_of p) z.pops v w refl l) (static_into b t s g x d k m h cells (taken_of p) z.pops v w refl l)
 
   -- its arguments did not fit
-  pub call_unfit : (i : Call) → CallReady b t s g x d k i → 11 ≤ (callee_in i).owner → (cells : List ℕ) (p : Popped)
-      → Pops (front t) (kin_of x.classes) cells (window_at s d) (window_at g d) (entry_at (callee_in i).owner (callee_in i).index) k.operands p → not p.ok ≡ true
-      → (r : Going) → r.end ≡ 6 → Called b x.classes t s g cells t s g cells d k r (call_by b t s g x d k i)
+  pub call_unfit : (i : Call) → CallReady b t s g x d k i → 11 ≤ (callee_in i).owner → (cells : List ℕ)
+      → Pops (front t) (kin_of x.classes) cells (window_at s d) (window_at g d) (entry_at (callee_in i).owner (callee_in i).index) k.operands (taking_of None)
+      → Called b x.classes t s g cells t s g cells d k (Err Stuck) (call_by b t s g x d k i)
   unfolding call_by execute
-  call_unfit (Virtual m) h l cells p z e r q = virtual_unfit b t s g x d k m h cells p z r (not-true p.ok e) q
-  call_unfit (Special m) h l cells p z e r q = own_unfit b t s g x d k m h l cells p z r e q
-  call_unfit (Static m) h l cells p z e r q = static_unfit b t s g x d k m h cells p z r (not-true p.ok e) q
+  call_unfit (Virtual m) h l cells z = virtual_unfit b t s g x d k m h cells (taking_of None) z refl
+  call_unfit (Special m) h l cells z = own_unfit b t s g x d k m h l cells (taking_of None) z refl
+  call_unfit (Static m) h l cells z = static_unfit b t s g x d k m h cells (taking_of None) z refl
 
   -- what is asked of it by that variant
   module _ (i : Call) (m : Callee) (h : CallReady b t s g x d k i) where

@@ -1,11 +1,7 @@
 -- Where the handlers of a method that has passed phase C lead: into its code. Assumes nothing.
 use Rattle.std.specs.Prelude.{ℕ, ◌<◌, ◌≤◌, ◌≡◌, Bool, not, ◌⊎◌, eqb}
-use Rattle.std.proofs.Math.Path.{refl}
-use Rattle.std.proofs.Common.{sym, ap, ◌∙◌, inl, inr, arith}
-use Rattle.std.proofs.Math.Bool.{true, false, cond}
-use mathlib.Core.List.{List, [], ◌∷◌}
+use Rattle.std.proofs.Common.{sym, ap, ◌∙◌, inl, inr, arith, refl, true, false, cond, List, [], ◌∷◌, length}
 use Rattle.std.proofs.Math.Option.{Option, none, some}
-use Rattle.std.proofs.Math.ListN.{length}
 use Rattle.kit.specs.Bools.{not_so}
 use Rattle.kit.specs.Pick.{side}
 use Rattle.kit.specs.Claims.{Claim, claim, pass, verdict, fail_pass, then_pass_right, verdict-append}

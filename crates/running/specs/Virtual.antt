@@ -1,11 +1,7 @@
 -- A virtual call, by the code's tests in the definition's order. Assumes nothing.
-use Prim.Native.Nat.{ℕ, suc, ◌+◌, ◌-◌, ◌/◌, ◌%◌, ◌<◌, ◌≤◌}
-use Rattle.std.specs.Prelude.{◌≡◌, refl, Bool, true, false, cond, not, eqb, leb, length, get_or}
-use Rattle.std.proofs.Math.Path.{sym, ap}
-use Rattle.std.proofs.Common.{subst, ◌∙◌}
-use mathlib.Core.List.{List, [], ◌∷◌, reverse}
-use native.Mathlib.Omega.{arith}
-use borrow.Author.Tests.{lt-leb, le-leb, eq-eqb, ne_eqb, not-true, not-false}
+use Rattle.std.specs.Prelude.{Err, ◌≡◌, refl, Bool, true, false, cond, not, eqb, leb, length, get_or}
+use Rattle.std.proofs.Common.{subst, ◌∙◌, ℕ, suc, ◌+◌, ◌-◌, ◌/◌, ◌%◌, ◌<◌, ◌≤◌, sym, ap, List, [], ◌∷◌, reverse, arith, le-leb, eq-eqb, ne_eqb}
+use borrow.Author.Tests.{lt-leb, not-true, not-false}
 use Rattle.kit.specs.Bools.{not_so}
 use Rattle.kit.specs.Words.{word}
 use Rattle.reader.specs.BuiltIns.{first_class, null_pointer}
@@ -17,7 +13,6 @@ use Rattle.rules.specs.InstructionWords.{callee_of}
 use Rattle.rules.specs.Types.{ref_fits}
 use Rattle.rules.specs.Opcodes.{body}
 use Rattle.rules.specs.Sites.{front}
-use Rattle.verifier.specs.Besides.{besides_none}
 use Rattle.shaping.specs.Phases.{program_now}
 use Rattle.plain.specs.Heap.{Heap, heap, Val, empty, num, ref, ready_at, type_at, refers_to, value_fits}
 use Rattle.plain.specs.Machine.{Result, Here, only, pop_any, pop_arguments, result_room, receiver, with_class, fault, enter}
@@ -26,18 +21,17 @@ use Rattle.plain.specs.ValueLaws.{value_of}
 use Rattle.plain.specs.Objects.{null_or, receiver_by, class_by, fits_here}
 use Rattle.plain.specs.Windows.{val_at, locs_from, ops_of}
 use Rattle.plain.specs.Calls.{window_at}
-use Rattle.plain.specs.CallSteps.{args_at}
+use Rattle.plain.specs.CallSteps.{Going, args_at}
 use Rattle.rules.specs.declared.site.Site.{Site}
 use Rattle.rules.specs.declared.instruction.Callee.{Callee}
 use Rattle.plain.specs.declared.frames.Frame.{Frame}
-use Rattle.plain.specs.declared.calls.Going.{Going}
+use Rattle.plain.specs.declared.window.Halt.TheVariants.{Fault, Stuck}
 use Rattle.plain.specs.declared.values.Value.{Value}
-use Rattle.running.specs.declared.popping.Popped.{Popped}
 use Rattle.running.specs.declared.entering.Way.{Way}
-use Rattle.running.specs.Standing.{records, Row, method_by, passed}
-use Rattle.running.specs.Popping.{Pops, kin_of}
+use Rattle.running.specs.Standing.{Row, method_by, passed}
+use Rattle.running.specs.Popping.{Taking, Pops, kin_of}
 use Rattle.running.specs.Entering.{Enterable, Into}
-use Rattle.running.specs.Calling.{At, Called, called-stuck, called_into, Calling, entry_at, params_are, results_are, parents_of, args_fit, stack_is, room_by}
+use Rattle.running.specs.Calling.{At, Called, called-stuck, called_halts, called_into, Calling, entry_at, params_are, results_are, parents_of, args_fit, stack_is, room_by}
 use Rattle.running.specs.Receiving.{args_below, taken_unfit, taken_none, taken_one}
 use Rattle.running.specs.Dispatching.{spot_word, spot_of, Dispatch, Stood, lookup_stood, stood_row, same_params, same_results, below_bundle}
 
@@ -83,7 +77,7 @@ module _ (b t s g : List ℕ) (x : Site) (d : ℕ) (k : Frame) (m : Callee) wher
   G = window_at g d
 
   -- ---- to the receiver
-  module _ (h : VirtualCall b t s g x d k m) (cells : List ℕ) (p : Popped)
+  module _ (h : VirtualCall b t s g x d k m) (cells : List ℕ) (p : Taking)
       (z : Pops (front t) (kin_of x.classes) cells W G (entry_at m.owner m.index) k.operands p) where
     abbrev what : Here → Result
     what = virtual_by b t s g x d k m
@@ -100,12 +94,12 @@ module _ (b t s g : List ℕ) (x : Site) (d : ℕ) (k : Frame) (m : Callee) wher
     unfolding call_virtual
     by y used e = ap (λ (H : Heap). pop_arguments P H (reverse N.params) [] (ops_of W G k.operands) (λ args r. pop_any r (λ v r'. onward y args v r'))) e
 
-    pub virtual_unfit : (r : Going) → p.ok ≡ false → r.end ≡ 6 → Called b x.classes t s g cells t s g cells d k r what
-    virtual_unfit r e = called-stuck b x.classes t s g cells d k what r (λ y used a. by y used a.heap ∙ taken_unfit P (heap cells used) _ _ W G p _ (taken used) e)
+    pub virtual_unfit : p.ok ≡ false → Called b x.classes t s g cells t s g cells d k (Err Stuck) what
+    virtual_unfit e = called-stuck b x.classes t s g cells d k what (λ y used a. by y used a.heap ∙ taken_unfit P (heap cells used) _ _ W G p _ (taken used) e)
 
     module _ (e : p.ok ≡ true) where
-      pub virtual_none : (r : Going) → p.left ≡ 0 → r.end ≡ 6 → Called b x.classes t s g cells t s g cells d k r what
-      virtual_none r o = called-stuck b x.classes t s g cells d k what r (λ y used a. by y used a.heap ∙ taken_none P (heap cells used) _ _ W G p _ (taken used) e o)
+      pub virtual_none : p.left ≡ 0 → Called b x.classes t s g cells t s g cells d k (Err Stuck) what
+      virtual_none o = called-stuck b x.classes t s g cells d k what (λ y used a. by y used a.heap ∙ taken_none P (heap cells used) _ _ W G p _ (taken used) e o)
 
       module _ (o : p.left ≡ 0 → ⊥) (c : ℕ) (ec : c ≡ length (results_in (front t) (entry_at m.owner m.index))) where
         abbrev received : Here → Result
@@ -123,16 +117,16 @@ module _ (b t s g : List ℕ) (x : Site) (d : ℕ) (k : Frame) (m : Callee) wher
         long : c ≡ length N.results
         long = ec ∙ ap length (sym (results_are b x.classes t h.at.standing.ready m.owner m.index h.of))
 
-        pub virtual_full : (r : Going) → x.stack < c + (p.left - 1) → r.end ≡ 6 → Called b x.classes t s g cells t s g cells d k r what
-        virtual_full r l =
-            called-stuck b x.classes t s g cells d k what r
+        pub virtual_full : x.stack < c + (p.left - 1) → Called b x.classes t s g cells t s g cells d k (Err Stuck) what
+        virtual_full l =
+            called-stuck b x.classes t s g cells d k what
             (λ y used a. virtual_is y used a ∙ rw (lt-leb (length N.results + (p.left - 1)) x.stack (omega (arith, long, l))))
 
         module _ (l : c + (p.left - 1) ≤ x.stack) where
           pub virtual_received : Received b t s g x d k m (p.left - 1) (p.count + 1)
           virtual_received = record {
             call = h;
-            args = omega (arith, z.count, ap length (params_are b x.classes t h.at.standing.ready m.owner m.index h.of));
+            args = omega (arith, z.count e, ap length (params_are b x.classes t h.at.standing.ready m.owner m.index h.of));
             operands = omega (arith, z.all e, o);
             room = omega (arith, long, l, stack_is b t s g x d k h.at);
           }
@@ -199,20 +193,15 @@ module _ (b t s g : List ℕ) (x : Site) (d : ℕ) (k : Frame) (m : Callee) (l n
       receiver_by Q y (cls m.named) given (going y)
       ∙ ap (λ (c : Bool). only c (null_or given (fault Q y null_pointer) (going y))) (ap (λ (H : Heap). value_fits Q H (dref (cls m.named)) given) e ∙ sym (fits_now used))
 
-  pub receive_unfit : (r : Going) → not q ≡ true → r.end ≡ 6 → Called b x.classes t s g cells t s g cells d k r rest
-  receive_unfit r f = called-stuck b x.classes t s g cells d k rest r (λ y used a. rest_is y used a.heap ∙ rw (not-true q f))
+  pub receive_unfit : not q ≡ true → Called b x.classes t s g cells t s g cells d k (Err Stuck) rest
+  receive_unfit f = called-stuck b x.classes t s g cells d k rest (λ y used a. rest_is y used a.heap ∙ rw (not-true q f))
 
   module _ (f : not q ≡ false) where
     is-ref : given ≡ ref v.cell
     is-ref = refers_ref (lineage (front t) 25728 (11 + x.classes)) (heap cells 0) (cls m.named) v.tag v.cell (sym eq ∙ not-false q f)
 
-    pub receive_null : (r : Going) → v.cell ≡ 0 → r.end ≡ 7 → Called b x.classes t s g cells t s g cells d k r rest
-    receive_null r z e = record {
-      is = λ y used a. rw e (sym (rest_is y used a.heap ∙ rw (not-false q f, is-ref, z)));
-      stands = λ w. absurd (omega arith);
-      kept = λ w. (refl, refl, refl, refl);
-      besides = besides_none records 384 t;
-    }
+    pub receive_null : v.cell ≡ 0 → Called b x.classes t s g cells t s g cells d k (Err (Fault null_pointer)) rest
+    receive_null z = called_halts b x.classes t s g cells d k rest (Fault null_pointer) (λ y used a. rest_is y used a.heap ∙ rw (not-false q f, is-ref, z))
 
     module _ (o : v.cell ≡ 0 → ⊥) (c e : ℕ) (ec : c ≡ get_or cells (v.cell - 1) 0) (ee : e ≡ get_or cells (v.cell - 1 + 1) 0) where
       object_is : (y : Here) (used : ℕ) → y.heap ≡ heap cells used
@@ -221,8 +210,8 @@ module _ (b t s g : List ℕ) (x : Site) (d : ℕ) (k : Frame) (m : Callee) (l n
       object_is y used i =
           rest_is y used i ∙ rw (not-false q f, is-ref, ne_eqb v.cell 0 o, i, ← ec, ← ee) (class_by c e _)
 
-      pub receive_array : (r : Going) → (e ≡ 0 → ⊥) → r.end ≡ 6 → Called b x.classes t s g cells t s g cells d k r rest
-      receive_array r z = called-stuck b x.classes t s g cells d k rest r (λ y used a. object_is y used a.heap ∙ rw (ne_eqb e 0 z))
+      pub receive_array : (e ≡ 0 → ⊥) → Called b x.classes t s g cells t s g cells d k (Err Stuck) rest
+      receive_array z = called-stuck b x.classes t s g cells d k rest (λ y used a. object_is y used a.heap ∙ rw (ne_eqb e 0 z))
 
       module _ (z : e ≡ 0) where
         below_named : below Q c m.named ≡ true
@@ -248,10 +237,10 @@ module _ (b t s g : List ℕ) (x : Site) (d : ℕ) (k : Frame) (m : Callee) (l n
               ∙ h.call.table.at (c - 11) (m.owner - 11) m.index (omega (arith, y.0, y.1)) (omega (arith, h.call.of.low, h.call.of.high)) h.call.of.row (rw (i, j) below_owner)
               ∙ rw (i, j)
 
-          pub receive_nowhere : (r : Going) → w ≡ 0 → r.end ≡ 6 → Called b x.classes t s g cells t s g cells d k r rest
+          pub receive_nowhere : w ≡ 0 → Called b x.classes t s g cells t s g cells d k (Err Stuck) rest
           unfolding spot_of
-          receive_nowhere r y =
-              called-stuck b x.classes t s g cells d k rest r
+          receive_nowhere y =
+              called-stuck b x.classes t s g cells d k rest
               (λ u used a. object_is u used a.heap ∙ rw (eq-eqb e 0 z, ← looked_up, eq-eqb w 0 y))
 
           module _ (y : w ≡ 0 → ⊥) where

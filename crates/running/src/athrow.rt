@@ -4,46 +4,36 @@ ghost use Rattle.classfiles.specs.Limits.{max_heap};
 ghost use Rattle.running.specs.Standing.{Standing};
 ghost use Rattle.running.specs.Athrow.{Checks, Athrows};
 
+use crate::ends::Move;
 use crate::throwing;
-use crate::throwing::Gone;
 use plain::frames::Frame;
 use plain::values::{RunType, Value};
-use plain::window::Turn;
+use plain::window::Halt;
 use plain::{heap, values};
 use rules::types::Kin;
 
-// On, with an object and its class; a fault, of null; or stuck, where there is no object to throw.
+// An object to throw, and its class.
 #[derive(Clone, Copy)]
 pub struct Thrown {
-    pub end: u32,
     pub object: u32,
     pub class: u32,
 }
 
-// What came of it, and the class that was thrown.
-#[derive(Clone, Copy)]
-pub struct Sent {
-    pub gone: Gone,
-    pub class: u32,
-}
-
-fn unthrown(end: u32) -> Thrown
-    ensures { result.end ≡ end }
-{
-    Thrown {
-        end,
-        object: 0,
-        class: 0,
-    }
-}
-
-// The top operand of call k at depth d, of a program with n classes in the bundle.
-fn to_throw(t: &[u8], cells: &[u32], s: &[u32], g: &[u8], n: usize, d: usize, k: Frame) -> Thrown
+// The top operand of call k at depth d, of a program with n classes in the bundle; a fault where it is null.
+fn to_throw(
+    t: &[u8],
+    cells: &[u32],
+    s: &[u32],
+    g: &[u8],
+    n: usize,
+    d: usize,
+    k: Frame,
+) -> Result<Thrown, Halt>
     requires { (187008 ≤ length t.now) × (n ≤ 16) × (d < 64) × (length s.now ≡ 4096) × (length g.now ≡ 4096) × (k.operands ≤ 32) }
     ensures { Checks n t.now cells.now s.now g.now d k result }
 {
     if k.operands < 1 {
-        return unthrown(Turn::STUCK);
+        return Err(Halt::Stuck);
     }
     let i = 64 * d + 31 + k.operands as usize;
     let v = Value {
@@ -56,17 +46,16 @@ fn to_throw(t: &[u8], cells: &[u32], s: &[u32], g: &[u8], n: usize, d: usize, k:
     };
     let asked = RunType { base: 1, depth: 0 };
     if !values::refers_to(&t[0..187008], kin, cells, v, asked) {
-        return unthrown(Turn::STUCK);
+        return Err(Halt::Stuck);
     }
     let q = v.to_cell();
     if q == 0 {
-        return unthrown(Turn::FAULT);
+        return Err(Halt::Fault(10));
     }
-    Thrown {
-        end: Turn::ON,
+    Ok(Thrown {
         object: q,
         class: heap::base_at(cells, q - 1),
-    }
+    })
 }
 
 // athrow in call k at depth d.
@@ -80,22 +69,12 @@ pub fn athrow(
     d: usize,
     k: Frame,
     used: u32,
-) -> Sent
+) -> Move
     requires { Standing b.now n t.now s.old g.old d k × (length cells.old ≤ max_heap) }
     ensures { Athrows b.now n t.now cells.old s.old g.old cells.new s.new g.new d k used result }
 {
-    let v = to_throw(t, cells, s, g, n, d, k);
-    if v.end == Turn::ON {
-        let gone = throwing::throw_object(b, t, s, g, n, d, k, used, v.object, v.class);
-        return Sent {
-            gone,
-            class: v.class,
-        };
+    match to_throw(t, cells, s, g, n, d, k) {
+        Ok(v) => throwing::throw_object(b, t, s, g, n, d, k, used, v.object, v.class),
+        Err(h) => throwing::halted(b, t, cells, s, g, n, d, k, used, h),
     }
-    if v.end == Turn::FAULT {
-        let gone = throwing::fault(b, t, cells, s, g, n, d, k, used, 10);
-        return Sent { gone, class: 10 };
-    }
-    let gone = throwing::at_end(Gone::STUCK, d, k, used);
-    Sent { gone, class: 0 }
 }

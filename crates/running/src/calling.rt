@@ -17,45 +17,18 @@ ghost use Rattle.running.specs.Sending.{CallReady, call_by, Paid};
 
 use crate::entering::{self, Way};
 use crate::popping::{self, Popped};
-use plain::calls::Going;
+use plain::calls::{Going, Running};
 use plain::frames::Frame;
 use plain::heap::{self};
 use plain::objects::{self};
 use plain::values::{self, RunType, Value};
-use plain::window::Turn;
+use plain::window::Halt;
 use rules::instruction::{Call, Callee};
 use rules::site::Site;
 use rules::types::Kin;
 
-fn stuck(d: usize, k: Frame) -> Going
-    ensures { result.end ≡ 6 }
-{
-    Going {
-        end: Turn::STUCK,
-        depth: d,
-        call: k,
-    }
-}
-
-// 0 and the way into a method; or stuck, or a fault, which is a call's only one: NullPointerException.
-#[derive(Clone, Copy)]
-pub struct Route {
-    pub end: u32,
-    pub way: Way,
-}
-
-fn off(end: u32) -> Route
-    ensures { result.end ≡ end }
-{
-    let way = Way {
-        class: 0,
-        method: 0,
-        own: 0,
-        left: 0,
-        count: 0,
-    };
-    Route { end, way }
-}
+// The way into a method; or stuck, or a fault, which is a call's only one: NullPointerException.
+pub type Route = Result<Way, Halt>;
 
 // The number of a method's entry in the table of types.
 fn entry(m: Callee) -> usize
@@ -83,16 +56,15 @@ fn into_static(
 {
     let v = popping::result_count(&t[0..187008], entry(m));
     if x.stack < v + p.left {
-        return off(Turn::STUCK);
+        return Err(Halt::Stuck);
     }
-    let way = Way {
+    Ok(Way {
         class: m.owner as u32,
         method: m.index as u32,
         own: 0,
         left: p.left,
         count: p.count,
-    };
-    Route { end: Turn::ON, way }
+    })
 }
 
 // The object that a constructor of class c is called for, below its arguments.
@@ -127,11 +99,11 @@ fn make_ready(
     ensures { Called b.now x.classes t.now s.now g.now cells.old t.now s.now g.now cells.new d k result (init_by b.now t.now s.now g.now x d k m) }
 {
     if k.operands == 0 {
-        return stuck(d, k);
+        return Err(Halt::Stuck);
     }
     let v = popping::operand(s, g, d, k.operands as usize - 1);
     if !is_unmade(t, cells, x.classes, v, m.named) {
-        return stuck(d, k);
+        return Err(Halt::Stuck);
     }
     heap::mark_ready(cells, v.cell - 1);
     let call = Frame {
@@ -142,11 +114,7 @@ fn make_ready(
         operands: k.operands - 1,
         locals: k.locals,
     };
-    Going {
-        end: Turn::ON,
-        depth: d,
-        call,
-    }
+    Ok(Running { depth: d, call })
 }
 
 // Of a class of the bundle.
@@ -166,20 +134,19 @@ fn into_constructor(
     ensures { Routes b.now x.classes t.now s.now g.now cells.now d k (init_by b.now t.now s.now g.now x d k m) result }
 {
     if p.left == 0 {
-        return off(Turn::STUCK);
+        return Err(Halt::Stuck);
     }
     let v = popping::operand(s, g, d, p.left - 1);
     if !is_unmade(t, cells, x.classes, v, m.named) {
-        return off(Turn::STUCK);
+        return Err(Halt::Stuck);
     }
-    let way = Way {
+    Ok(Way {
         class: m.owner as u32,
         method: m.index as u32,
         own: v.cell,
         left: p.left - 1,
         count: p.count + 1,
-    };
-    Route { end: Turn::ON, way }
+    })
 }
 
 fn refers_to(t: &[u8], cells: &[u32], n: usize, v: Value, c: u16) -> bool
@@ -226,27 +193,26 @@ fn receive(
     ensures { Routes b.now x.classes t.now s.now g.now cells.now d k (receive_by b.now t.now s.now g.now x d m l n v) result }
 {
     if !refers_to(t, cells, x.classes, v, m.named) {
-        return off(Turn::STUCK);
+        return Err(Halt::Stuck);
     }
     if v.cell == 0 {
-        return off(Turn::FAULT);
+        return Err(Halt::Fault(10));
     }
     let u = values::type_at(cells, v.cell - 1);
     if u.depth != 0 {
-        return off(Turn::STUCK);
+        return Err(Halt::Stuck);
     }
     let w = spot(t, u.base, m);
     if w == 0 {
-        return off(Turn::STUCK);
+        return Err(Halt::Stuck);
     }
-    let way = Way {
+    Ok(Way {
         class: (w - 1) / 64,
         method: (w - 1) % 64,
         own: 0,
         left: l,
         count: n,
-    };
-    Route { end: Turn::ON, way }
+    })
 }
 
 fn into_virtual(
@@ -265,11 +231,11 @@ fn into_virtual(
     ensures { Routes b.now x.classes t.now s.now g.now cells.now d k (virtual_by b.now t.now s.now g.now x d k m) result }
 {
     if p.left == 0 {
-        return off(Turn::STUCK);
+        return Err(Halt::Stuck);
     }
     let c = popping::result_count(&t[0..187008], entry(m));
     if x.stack < c + (p.left - 1) {
-        return off(Turn::STUCK);
+        return Err(Halt::Stuck);
     }
     let v = popping::operand(s, g, d, p.left - 1);
     receive(b, t, s, g, cells, x, d, k, m, p.left - 1, p.count + 1, v)
@@ -297,17 +263,6 @@ fn way_of(
         Call::Static(m) => into_static(b, t, s, g, cells, x, d, k, m, p),
     }
 }
-
-fn callee(i: Call) -> Callee
-    ensures { result ≡ callee_in i }
-{
-    match i {
-        Call::Virtual(m) => m,
-        Call::Special(m) => m,
-        Call::Static(m) => m,
-    }
-}
-
 // Its arguments are popped and the method is entered here alone, for all three kinds, so that both become part of the run's loop.
 pub fn call(
     b: &[u8],
@@ -323,22 +278,14 @@ pub fn call(
     requires { CallReady b.now t.old s.old g.old x d k i }
     ensures { Called b.now x.classes t.old s.old g.old cells.old t.new s.new g.new cells.new d k result (call_by b.now t.old s.old g.old x d k i) }
 {
-    let m = callee(i);
+    let m = i.callee();
     if m.owner < 11 {
         return make_ready(b, t, s, g, cells, x, d, k, m);
     }
-    let p = popping::pop_at(t, s, g, cells, x.classes, d, entry(m), k.operands as usize);
-    if !p.ok {
-        return stuck(d, k);
-    }
-    let q = way_of(b, t, s, g, cells, x, d, k, i, p);
-    let way = q.way;
-    if q.end != 0 {
-        return Going {
-            end: q.end,
-            depth: d,
-            call: k,
-        };
-    }
+    let Some(p) = popping::pop_at(t, s, g, cells, x.classes, d, entry(m), k.operands as usize)
+    else {
+        return Err(Halt::Stuck);
+    };
+    let way = way_of(b, t, s, g, cells, x, d, k, i, p)?;
     entering::go_into(b, t, s, g, x, d, k, way)
 }

@@ -10,9 +10,9 @@ ghost use Rattle.plain.specs.CallSteps.{Lent};
 ghost use Rattle.running.specs.Standing.{records};
 ghost use Rattle.running.specs.Entering.{Entered, Enterable, Into};
 
-use plain::calls::Going;
+use plain::calls::{Going, Running};
 use plain::frames::{self, Frame};
-use plain::window::Turn;
+use plain::window::Halt;
 use reader::access;
 use rules::site::Site;
 use texts::items;
@@ -55,19 +55,14 @@ fn enter(
     ensures { Entered t.old s.old g.old t.new s.new g.new d k n into result }
 {
     if 63 <= d {
-        return Going {
-            end: Turn::DEPTH_FULL,
-            depth: d,
-            call: k,
-        };
+        return Err(Halt::DepthFull);
     }
     save(t, d, k);
     frames::next_window(s, g, d, k.operands as usize, n, into.locals as usize);
-    Going {
-        end: Turn::ON,
+    Ok(Running {
         depth: d + 1,
         call: into,
-    }
+    })
 }
 
 // max_locals of method j of class c, which has one Code.

@@ -12,6 +12,7 @@ ghost use Rattle.plain.specs.Run.{all_ints, is_entry};
 ghost use Rattle.running.specs.Entry.{Laid, Emptied, Starts};
 
 use plain::frames::Frame;
+use plain::values::Value;
 use reader::{access, overriding, signature, types};
 use texts::items;
 
@@ -20,13 +21,10 @@ fn all_ints(t: &[u8], k: usize) -> bool
     requires { k < 1024 }
     ensures { result ≡ all_ints (params_in t.now k) }
 {
-    let n = types::param_count(t, k);
-    let mut i = 0;
-    while i < n {
+    for i in 0..types::param_count(t, k) {
         if types::param_at(t, k, i) != 248 {
             return false;
         }
-        i += 1;
     }
     true
 }
@@ -53,12 +51,9 @@ fn lay(s: &mut [u32], g: &mut [u8], args: &[u32])
     requires { (length args.now ≤ length s.old) × (length args.now ≤ length g.old) }
     ensures { Laid args.now s.new g.new (length args.now) }
 {
-    let mut i = 0;
-    while i < args.len() {
-        s[i] = args[i];
-        g[i] = 1;
-        i += 1;
-    }
+    let n = args.len();
+    s[..n].copy_from_slice(args);
+    g[..n].fill(Value::NUM);
 }
 
 // Empty locals behind them: the tag alone says so.
@@ -66,11 +61,7 @@ fn empty_from(g: &mut [u8], from: usize)
     requires { (from ≤ 32) × (32 ≤ length g.old) }
     ensures { Emptied g.old g.new from 32 }
 {
-    let mut i = from;
-    while i < 32 {
-        g[i] = 0;
-        i += 1;
-    }
+    g[from..32].fill(Value::EMPTY);
 }
 
 // The first call, of method j of class i.

@@ -6,20 +6,13 @@ ghost use Rattle.shaping.specs.Phases.{program_now};
 ghost use Rattle.plain.specs.Landing.{at_handler};
 ghost use Rattle.running.specs.Throws.{OfBundle, Shaped, Catches, Lands, Waiters};
 
-use plain::catching::{Caught, Table};
+use plain::calls::Running;
+use plain::catching::Table;
 use plain::frames::Frame;
 use plain::{catching, frames};
 use rules::site::Site;
 use rules::types::Kin;
 use shaping::locate;
-
-// The call that catches, at its handler.
-#[derive(Clone, Copy)]
-pub struct Landed {
-    pub found: bool,
-    pub depth: usize,
-    pub call: Frame,
-}
 
 // Where the method of call k stands in the bundle.
 pub fn site_of(b: &[u8], t: &[u8], n: usize, k: Frame) -> Site
@@ -36,7 +29,7 @@ pub fn site_of(b: &[u8], t: &[u8], n: usize, k: Frame) -> Site
 }
 
 // The target that call k has for an object of class c.
-fn caught_in(b: &[u8], t: &[u8], n: usize, k: Frame, c: u32) -> Caught
+fn caught_in(b: &[u8], t: &[u8], n: usize, k: Frame, c: u32) -> Option<u32>
     requires { Shaped b.now n t.now × OfBundle n t.now k }
     ensures { Catches (program_now b.now n t.now) c k result }
 {
@@ -68,35 +61,26 @@ fn at_handler(k: Frame, target: u32) -> Frame
     }
 }
 
-// An object of class c, thrown in call k at depth d.
-pub fn land(b: &[u8], t: &[u8], n: usize, d: usize, k: Frame, c: u32) -> Landed
+// The call that catches an object of class c, thrown in call k at depth d, at its handler.
+pub fn land(b: &[u8], t: &[u8], n: usize, d: usize, k: Frame, c: u32) -> Option<Running>
     requires { Shaped b.now n t.now × OfBundle n t.now k × (d < 64) × Waiters n t.now d }
     ensures { Lands (program_now b.now n t.now) t.now d k c result }
 {
-    let q = caught_in(b, t, n, k, c);
-    if q.found {
-        return Landed {
-            found: true,
+    if let Some(target) = caught_in(b, t, n, k, c) {
+        return Some(Running {
             depth: d,
-            call: at_handler(k, q.target),
-        };
+            call: at_handler(k, target),
+        });
     }
-    let mut e = d;
-    while 0 < e {
-        e -= 1;
+    for i in 0..d {
+        let e = d - i - 1;
         let f = frames::saved(t, 46752, e);
-        let q = caught_in(b, t, n, f, c);
-        if q.found {
-            return Landed {
-                found: true,
+        if let Some(target) = caught_in(b, t, n, f, c) {
+            return Some(Running {
                 depth: e,
-                call: at_handler(f, q.target),
-            };
+                call: at_handler(f, target),
+            });
         }
     }
-    Landed {
-        found: false,
-        depth: 0,
-        call: k,
-    }
+    None
 }

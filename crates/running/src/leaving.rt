@@ -5,51 +5,20 @@ ghost use Rattle.running.specs.Standing.{Standing};
 ghost use Rattle.running.specs.Leaving.{Leaves, leave_by, return_by, Giving};
 
 use crate::popping::{self};
-use plain::calls::{self, Going};
+use plain::calls::{self, Running};
 use plain::frames::Frame;
 use plain::objects::{self};
 use plain::values::Value;
-use plain::window::Turn;
 use rules::site::Site;
 
-// On in the call that waited; or out of the run, with the value unless it is empty.
+// Back in the call that waited; or out of the run, with what it returns.
 #[derive(Clone, Copy)]
-pub struct Left {
-    pub going: Going,
-    pub value: Value,
+pub enum Left {
+    Back(Running),
+    Out(Option<Value>),
 }
 
-impl Left {
-    pub const RETURNED: u32 = 1;
-}
-
-fn ending(end: u32, d: usize, k: Frame, value: Value) -> Left
-    ensures { (result.going.end ≡ end) × (result.value ≡ value) }
-{
-    let going = Going {
-        end,
-        depth: d,
-        call: k,
-    };
-    Left { going, value }
-}
-
-pub fn stuck(d: usize, k: Frame) -> Left
-    ensures { result.going.end ≡ 6 }
-{
-    ending(Turn::STUCK, d, k, Value::empty())
-}
-
-fn nothing() -> Value
-    ensures { result.tag ≡ 0 }
-{
-    Value {
-        tag: Value::EMPTY,
-        cell: 0,
-    }
-}
-
-// From the call k at depth d.
+// From the call k at depth d; nothing where it is stuck, here and below.
 fn give_none(
     b: &[u8],
     t: &[u8],
@@ -59,21 +28,17 @@ fn give_none(
     x: Site,
     d: usize,
     k: Frame,
-) -> Left
+) -> Option<Left>
     requires { Standing b.now x.classes t.now s.now g.now d k }
     ensures { Leaves b.now x.classes t.now s.now g.now cells.now s.now g.now d k result (leave_by b.now x.classes t.now []) }
 {
     if !objects::is_self_ready(cells, k.own) {
-        return stuck(d, k);
+        return None;
     }
     if d == 0 {
-        return ending(Left::RETURNED, d, k, nothing());
+        return Some(Left::Out(None));
     }
-    let going = calls::back(t, s, g, 46752, d, 3);
-    Left {
-        going,
-        value: nothing(),
-    }
+    Some(Left::Back(calls::back(t, s, g, 46752, d, 3)))
 }
 
 pub fn give(
@@ -86,18 +51,17 @@ pub fn give(
     d: usize,
     k: Frame,
     v: Value,
-) -> Left
+) -> Option<Left>
     requires { Giving b.now x.classes t.now s.old g.old d k v }
     ensures { Leaves b.now x.classes t.now s.old g.old cells.now s.new g.new d k result (leave_by b.now x.classes t.now (value_of v.tag v.cell ∷ [])) }
 {
     if !objects::is_self_ready(cells, k.own) {
-        return stuck(d, k);
+        return None;
     }
     if d == 0 {
-        return ending(Left::RETURNED, d, k, v);
+        return Some(Left::Out(Some(v)));
     }
-    let going = calls::back_with(t, s, g, 46752, d, 3, v);
-    Left { going, value: v }
+    Some(Left::Back(calls::back_with(t, s, g, 46752, d, 3, v)))
 }
 
 // The instruction return.
@@ -110,14 +74,14 @@ pub fn leave(
     x: Site,
     d: usize,
     k: Frame,
-) -> Left
+) -> Option<Left>
     requires { Standing b.now x.classes t.now s.now g.now d k }
     ensures { Leaves b.now x.classes t.now s.now g.now cells.now s.now g.now d k result (return_by b.now x.classes t.now s.now g.now d k) }
 {
     let e = 64 * (k.class as usize - 11) + k.method as usize;
     let v = popping::result_count(&t[0..187008], e);
     if v != 0 {
-        return stuck(d, k);
+        return None;
     }
     give_none(b, t, s, g, cells, x, d, k)
 }

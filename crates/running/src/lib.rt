@@ -3,6 +3,7 @@
 
 pub mod athrow;
 pub mod calling;
+pub mod ends;
 pub mod entering;
 pub mod entry;
 pub mod landing;

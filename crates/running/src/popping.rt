@@ -7,17 +7,16 @@ ghost use Rattle.rules.specs.Sites.{front};
 ghost use Rattle.plain.specs.ValueLaws.{value_of};
 ghost use Rattle.plain.specs.Windows.{val_at};
 ghost use Rattle.plain.specs.Calls.{window_at};
-ghost use Rattle.running.specs.Popping.{param_fits, Pops, kin_of};
+ghost use Rattle.running.specs.Popping.{param_fits, taking_of, Pops, kin_of};
 
 use plain::values::{self, Value};
 use reader::types;
 use rules::codes;
 use rules::types::Kin;
 
-// Whether the arguments were there and fitted; how many operands are left below them, and how many they are.
+// How many operands are left below the arguments, and how many those are.
 #[derive(Clone, Copy)]
 pub struct Popped {
-    pub ok: bool,
     pub left: usize,
     pub count: usize,
 }
@@ -59,32 +58,36 @@ fn fit(
     requires { (left + n ≤ 32) × (length w.now ≡ 64) × (length g.now ≡ 64) × (e < 1024) × (n ≡ length (params_in t.now e)) }
     ensures { result ≡ all_of (param_fits (lineage t.now kin.at kin.count) t.now e cells.now w.now g.now left) n }
 {
-    let mut i = 0;
-    while i < n {
+    for i in 0..n {
         if !one_fits(t, kin, cells, w, g, e, left, i) {
             return false;
         }
-        i += 1;
     }
     true
 }
 
-// The arguments of the method of entry e, of so many operands.
-fn pop(t: &[u8], kin: Kin, cells: &[u32], w: &[u32], g: &[u8], e: usize, have: usize) -> Popped
+// The arguments of the method of entry e, of so many operands, if they are there and fit.
+fn pop(
+    t: &[u8],
+    kin: Kin,
+    cells: &[u32],
+    w: &[u32],
+    g: &[u8],
+    e: usize,
+    have: usize,
+) -> Option<Popped>
     requires { (have ≤ 32) × (length w.now ≡ 64) × (length g.now ≡ 64) × (e < 1024) }
-    ensures { Pops t.now kin cells.now w.now g.now e have result }
+    ensures { Pops t.now kin cells.now w.now g.now e have (taking_of result) }
 {
     let n = types::param_count(t, e);
     if have < n {
-        return Popped {
-            ok: false,
-            left: 0,
-            count: n,
-        };
+        return None;
     }
     let left = have - n;
-    let ok = fit(t, kin, cells, w, g, e, left, n);
-    Popped { ok, left, count: n }
+    if !fit(t, kin, cells, w, g, e, left, n) {
+        return None;
+    }
+    Some(Popped { left, count: n })
 }
 
 // How many results the method of entry e has.
@@ -109,9 +112,9 @@ pub fn pop_at(
     d: usize,
     e: usize,
     have: usize,
-) -> Popped
+) -> Option<Popped>
     requires { (have ≤ 32) × (length s.now ≡ 4096) × (length g.now ≡ 4096) × (187008 ≤ length t.now) × (d < 64) × (n ≤ 16) × (e < 1024) }
-    ensures { Pops (front t.now) (kin_of n) cells.now (window_at s.now d) (window_at g.now d) e have result }
+    ensures { Pops (front t.now) (kin_of n) cells.now (window_at s.now d) (window_at g.now d) e have (taking_of result) }
 {
     let a = 64 * d;
     let z = a + 64;

@@ -1,12 +1,9 @@
 -- What phase C asks of an instruction, by its opcode: four bits an opcode, and that they are so. Assumes nothing.
-use Rattle.std.specs.Prelude.{ℕ, suc, ◌+◌, ◌*◌, ◌/◌, ◌%◌, ◌^◌, ◌<◌, ◌≤◌, Bool, not, List, [], ◌∷◌, eqb, ltb, leb, get_or}
-use Rattle.std.proofs.Math.Path.{◌≡◌, refl, sym}
-use Rattle.std.proofs.Common.{ap, subst, ◌∙◌}
-use Rattle.std.proofs.Math.Bool.{true, false, cond}
-use native.Mathlib.Omega.{arith}
+use Rattle.std.specs.Prelude.{Option, Some, None, ℕ, suc, ◌+◌, ◌*◌, ◌/◌, ◌%◌, ◌^◌, ◌<◌, ◌≤◌, Bool, not, List, [], ◌∷◌, eqb, ltb, leb, get_or}
+use Rattle.std.proofs.Common.{ap, subst, ◌∙◌, ◌≡◌, refl, sym, true, false, cond, arith, eqb-true, eq-eqb, ne_eqb, ltb-true, lt-ltb, le-ltb, le-leb}
 use Rattle.std.proofs.Math.Dec.{leb-zero}
 use Rattle.std.proofs.Math.ListN.{get_or-eq_default}
-use borrow.Author.Tests.{eqb-true, eqb-false, eq-eqb, ne_eqb, ltb-true, lt-ltb, le-ltb, le-leb, lt-leb, not-true, not-false}
+use Rattle.std.proofs.lemmas.Bool.{eqb-false, lt-leb, not-true, not-false}
 use Rattle.kit.specs.Bools.{not_so}
 use Rattle.kit.specs.Scan.{first_not, all_of, all_at}
 use Rattle.classfiles.specs.Limits.{max_dimensions}
@@ -381,41 +378,40 @@ new_by_lem op h l = go (eqb (kind_of op) 7) refl
         λ P pool a b o r. (asked op h n P pool a b o).old ∙ sym (ne_eqb op 0xbb (λ z. n (ap kind_of z ∙ own_bb)))
 
 -- ---- what an answer says of the instruction that the bytes at o make
-pub record Says (g : Instr → ℕ) (s t : List ℕ) (c : ℕ) (bytes : List ℕ) (o v : ℕ) : Type 0 where
+pub record Says {A : Type 0} (g : Instr → A) (s t : List ℕ) (c : ℕ) (bytes : List ℕ) (o : ℕ) (v : A) : Type 0 where
   pub is : (P : Program) → ((i : ℕ) → Flagged P (word_of t c i)) → v ≡ g (made P (resolved_in s t c) (get_or bytes o 0) (get_or bytes (o + 1) 0) (get_or bytes (o + 2) 0) o)
 
-pub said : (g : Instr → ℕ) (s t : List ℕ) (c : ℕ) (bytes : List ℕ) (o : ℕ) (r : code.Instr) (v : ℕ) → DecodedAt s t c bytes o r → v ≡ g (instr_of r) → Says g s t c bytes o v
+pub said : {A : Type 0} (g : Instr → A) (s t : List ℕ) (c : ℕ) (bytes : List ℕ) (o : ℕ) (r : code.Instr) (v : A) → DecodedAt s t c bytes o r → v ≡ g (instr_of r) → Says g s t c bytes o v
 said g s t c bytes o r v d e = record { is = λ P f. e ∙ ap g (d.is P f) }
 
--- its mark, 0 where its form is wrong
-unfoldable pub mark_by : ℕ → Instr → ℕ
-mark_by n i = cond (form_ok n i) (cond (is_new i) 2 1) 0
+-- its mark, where its form is right
+unfoldable pub mark_by : ℕ → Instr → Option ℕ
+mark_by n i = cond (form_ok n i) (Some (cond (is_new i) 2 1)) None
 
 module _ (n : ℕ) (i : Instr) where
-  pub mark_good : (b : Bool) (v : ℕ) → b ≡ form_ok n i → b ≡ true → v ≡ cond (is_new i) 2 1 → v ≡ mark_by n i
+  pub mark_good : (b : Bool) (v : ℕ) → b ≡ form_ok n i → b ≡ true → v ≡ cond (is_new i) 2 1 → Some v ≡ mark_by n i
   unfolding mark_by
-  mark_good b v e h k = k ∙ sym (rw (sym e ∙ h))
+  mark_good b v e h k = ap Some k ∙ sym (rw (sym e ∙ h))
 
-  pub mark_bad : (b : Bool) → b ≡ form_ok n i → b ≡ false → 0 ≡ mark_by n i
+  pub mark_bad : (b : Bool) → b ≡ form_ok n i → b ≡ false → None ≡ mark_by n i
   unfolding mark_by
   mark_bad b e h = sym (rw (sym e ∙ h))
 
-  pub mark_zero : (v : ℕ) → v ≡ mark_by n i → v ≡ 0 → form_ok n i ≡ false
+  pub mark_none : None ≡ mark_by n i → form_ok n i ≡ false
   unfolding mark_by
-  mark_zero v e z = go (form_ok n i) (is_new i) refl (sym e ∙ z)
+  mark_none e = go (form_ok n i) refl e
     where
-      go : (a b : Bool) → form_ok n i ≡ a → ◌≡◌ {A = ℕ} (cond a (cond b 2 1) 0) 0 → form_ok n i ≡ false
-      go true true x y = absurd (omega arith)
-      go true false x y = absurd (omega arith)
-      go false b x y = x
+      go : (a : Bool) → form_ok n i ≡ a → None ≡ cond a (Some (cond {A = ℕ} (is_new i) 2 1)) None → form_ok n i ≡ false
+      go true x y = cc
+      go false x y = x
 
-  pub mark_some : (v : ℕ) → v ≡ mark_by n i → (v ≡ 0 → ⊥) → (form_ok n i ≡ true) × (v ≡ cond (is_new i) 2 1)
+  pub mark_some : (v : ℕ) → Some v ≡ mark_by n i → (form_ok n i ≡ true) × (v ≡ cond (is_new i) 2 1)
   unfolding mark_by
-  mark_some v e z = go (form_ok n i) refl e
+  mark_some v e = go (form_ok n i) refl e
     where
-      go : (a : Bool) → form_ok n i ≡ a → v ≡ cond a (cond (is_new i) 2 1) 0 → (form_ok n i ≡ true) × (v ≡ cond (is_new i) 2 1)
-      go true x y = (x, y)
-      go false x y = absurd (z y)
+      go : (a : Bool) → form_ok n i ≡ a → Some v ≡ cond a (Some (cond (is_new i) 2 1)) None → (form_ok n i ≡ true) × (v ≡ cond (is_new i) 2 1)
+      go true x y = (x, cc)
+      go false x y = cc
 
 -- 12 or 13 of it, 0 where it has neither
 unfoldable pub refer_by : List Line → Instr → ℕ
@@ -452,11 +448,11 @@ module _ (s t : List ℕ) (c : ℕ) (bytes : List ℕ) (o op k : ℕ) (eo : op �
     form_here : (P : Program) → form_ok n (made P (resolved_in s t c) (get_or bytes o 0) (get_or bytes (o + 1) 0) (get_or bytes (o + 2) 0) o) ≡ leb v n
     form_here P = (asked_here h P).form n ∙ ap (λ (j : ℕ). leb (needs_of k j) n) (sym ea) ∙ ap (λ (j : ℕ). leb j n) (sym ev)
 
-    pub quick_good : v ≤ n → Says (mark_by n) s t c bytes o 1
+    pub quick_good : v ≤ n → Says (mark_by n) s t c bytes o (Some 1)
     unfolding mark_by
     quick_good e = record { is = λ P f. sym (rw (form_here P ∙ le-leb v n e, (asked_here h P).old)) }
 
-    pub quick_bad : n < v → Says (mark_by n) s t c bytes o 0
+    pub quick_bad : n < v → Says (mark_by n) s t c bytes o None
     unfolding mark_by
     quick_bad e = record { is = λ P f. sym (rw (form_here P ∙ lt-leb v n e)) }
 

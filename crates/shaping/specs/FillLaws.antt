@@ -1,11 +1,6 @@
 -- Laws of the marks of a method that phase C has passed, written by its opcodes: the loop's turns and its end. Assumes nothing.
 use Rattle.std.specs.Prelude.{ℕ, ◌+◌, ◌-◌, ◌<◌, ◌≤◌, ◌≡◌, Bool, true, length, get_or, set}
-use Rattle.std.proofs.Math.Path.{refl, sym, ap, subst}
-use Rattle.std.proofs.Common.{◌∙◌, arith, le-ltb}
-use Rattle.std.proofs.Math.Bool.{cond}
-use mathlib.Core.List.{List, ◌∷◌}
-use Rattle.std.proofs.Math.Dec.{T, eqb}
-use Rattle.std.proofs.Math.ListN.{length-set}
+use Rattle.std.proofs.Common.{◌∙◌, arith, le-ltb, refl, sym, ap, subst, cond, List, ◌∷◌, T, eqb, length-set}
 use Rattle.kit.specs.Bools.{T_true}
 use Rattle.kit.specs.Claims.{AllT, pass, verdict, pass_all, all_split}
 use Rattle.reader.specs.Program.{Program, Method}

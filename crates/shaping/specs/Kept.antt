@@ -1,8 +1,6 @@
 -- What is prepared stays so while the scratch's front stays. Assumes nothing.
 use Rattle.std.specs.Prelude.{ℕ, ◌+◌, ◌-◌, ◌*◌, ◌%◌, ◌<◌, ◌≤◌, ◌≡◌, refl, Bool, true, false, cond, ltb, eqb, length, get_or, take, drop}
-use Rattle.std.proofs.Common.{sym, subst, ◌∙◌, arith, take-take, get_or-take, get_or-drop, ltb-false}
-use Rattle.std.proofs.Math.Path.{ap}
-use mathlib.Core.List.{List}
+use Rattle.std.proofs.Common.{sym, subst, ◌∙◌, arith, take-take, get_or-take, get_or-drop, ltb-false, ap, List}
 use Rattle.kit.specs.Bools.{not_so}
 use Rattle.texts.specs.Reading.{Res, ok, bad}
 use Rattle.classfiles.specs.Bundle.{ClassFile, class_files_at, bundle_at}

@@ -1,10 +1,6 @@
 -- A method's parts as the code finds them, and that they are the program's; what has to stand in the scratch for that. Assumes nothing.
-use Rattle.std.specs.Prelude.{ℕ, ◌+◌, ◌-◌, ◌*◌, ◌^◌, ◌<◌, ◌≤◌, ◌≡◌, List, Bool, false, eqb, take, drop}
-use Rattle.std.proofs.Math.Path.{refl, sym, ap}
-use Rattle.std.proofs.Common.{subst, ◌∙◌, eqb-true, eq-eqb, ne_eqb}
-use Rattle.std.proofs.Math.Bool.{true, not}
-use native.Mathlib.Omega.{arith}
-use Rattle.std.proofs.Math.ListN.{length}
+use Rattle.std.specs.Prelude.{ℕ, ◌+◌, ◌-◌, ◌*◌, ◌^◌, ◌<◌, ◌≤◌, ◌≡◌, List, Bool, false, eqb}
+use Rattle.std.proofs.Common.{subst, ◌∙◌, eqb-true, eq-eqb, ne_eqb, refl, sym, ap, true, not, arith, length}
 use Rattle.std.proofs.lemmas.Bool.{not-false}
 use Rattle.kit.specs.Bools.{not_so}
 use Rattle.kit.specs.Lists.{length_part}
@@ -225,11 +221,11 @@ module _ (s t : List ℕ) (n c m codes : ℕ) (p : Parts) (i f : Bool) where
         method = refl;
       }
 
-pub knows_init : (s t : List ℕ) (n c m : ℕ) (x : Site) (q : Span) → Prepared s n t → c < n → m < row_count (block_at t c) true → Located s n c m x t → IsText s q (row_sig s (block_at t c) true m).name
-    → x.constructor ≡ is_init (take (q.end - q.start) (drop q.start s)) → KnowsInit s t x
+pub knows_init : (s t : List ℕ) (n c m : ℕ) (x : Site) (q : List ℕ) → Prepared s n t → c < n → m < row_count (block_at t c) true → Located s n c m x t → q ≡ (row_sig s (block_at t c) true m).name
+    → x.constructor ≡ is_init q → KnowsInit s t x
 unfolding program_at method_of row_at row_sig row_start rows_word row_in member_of
 knows_init s t n c m x q h l g z hq e =
     ap (λ (k : ℕ). is_constructor (method (program_of (files_in s k t)) (first_class + x.class) x.method)) z.classes
     ∙ ap (λ (k : ℕ). is_constructor (method (program_of (files_in s n t)) (first_class + k) x.method)) z.class
     ∙ ap (λ (k : ℕ). is_constructor (method (program_of (files_in s n t)) (first_class + c) k)) z.method
-    ∙ ap is_constructor (method-at s n t h.tables.most c l m g) ∙ ap is_init (sym hq.is) ∙ sym e
+    ∙ ap is_constructor (method-at s n t h.tables.most c l m g) ∙ ap is_init (sym hq) ∙ sym e

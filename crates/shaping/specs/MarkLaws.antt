@@ -1,10 +1,7 @@
 -- Laws of marks: the scan's turns, and what a mark says of an offset. Assumes nothing.
 use Rattle.std.specs.Prelude.{ℕ, ◌+◌, ◌<◌, ◌≤◌, ◌≡◌, Bool, true, false, cond, not, ◌⊎◌, eqb, length, get_or, set, take, drop, replicate}
-use Rattle.std.proofs.Math.Path.{refl, ap}
-use Rattle.std.proofs.Common.{sym, subst, ◌∙◌, inl, inr, arith, take-take, length-take-le, eq-eqb, ne_eqb}
-use mathlib.Core.List.{List, [], ◌∷◌, ◌++◌}
+use Rattle.std.proofs.Common.{sym, subst, ◌∙◌, inl, inr, arith, take-take, length-take-le, eq-eqb, ne_eqb, refl, ap, List, [], ◌∷◌, ◌++◌, get_or-set_same, get_or-set_other}
 use Rattle.std.proofs.lemmas.List.{length-replicate, take-set-le, take-append-le}
-use Rattle.std.proofs.Math.Seq.{get_or-set_same, get_or-set_other}
 use Rattle.kit.specs.Pick.{side}
 use Rattle.kit.specs.Lists.{length_part, length_back, get_or-back_in, get_or-replicate_same}
 use Rattle.reader.specs.Program.{Program, Method}

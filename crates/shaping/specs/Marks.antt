@@ -1,17 +1,24 @@
 -- The marks of a method's offsets, a byte each from 256,640 on, and what the scan that writes them answers.
-use Rattle.std.specs.Prelude.{ℕ, ◌+◌, ◌-◌, ◌<◌, ◌≤◌, ◌≡◌, cond, List, [], ◌∷◌, eqb, length, get_or}
-use Rattle.kit.specs.Claims.{Ruling, pass, fail, verdict}
+use Rattle.std.specs.Prelude.{ℕ, ◌+◌, ◌-◌, ◌<◌, ◌≤◌, ◌≡◌, Result, OnOk, cond, List, [], ◌∷◌, eqb, length, get_or}
+use Rattle.kit.specs.Claims.{Ruling, pass, ruled, verdict}
+use Rattle.texts.specs.Faults.{number}
+use Rattle.texts.specs.declared.faults.Fault as code
 use Rattle.reader.specs.Verdicts.{Fault, fault}
 use Rattle.rules.specs.Instruction.{is_new}
 use Rattle.rules.specs.Lines.{Line, line, lines}
 use Rattle.rules.specs.Shape.{form_claims, shape_claims}
 use Rattle.rules.specs.Sites.{front, program_at, method_at, Here}
 use Rattle.rules.specs.declared.site.Site.{Site}
-use Rattle.rules.specs.declared.site.Ruled.{Ruled}
 
 -- what the code's answer on a method says
+abbrev pub Ruled : Type 0
+Ruled = Result (Unit {0}) code.Fault
+
+abbrev pub spot_of : code.Fault → Fault
+spot_of f = fault (number f.0) f.1
+
 abbrev pub ruled_as : Ruled → Ruling Fault
-ruled_as r = cond (eqb r.number 0) pass (fail (fault r.number r.place))
+ruled_as r = ruled spot_of r
 
 unfoldable pub mark_at : List ℕ → ℕ → ℕ
 mark_at t o = get_or t (256640 + o) 0
@@ -38,7 +45,7 @@ lines_at s t x = lines (program_at s (front t) x) (method_at s (front t) x)
 -- all 11 of a method; where there is none, its marks
 pub record Scanned (s t : List ℕ) (x : Site) (r : Ruled) (u : List ℕ) : Type 0 where
   pub is : ruled_as r ≡ verdict (form_claims (method_at s (front t) x) (lines_at s t x))
-  pub marks : r.number ≡ 0 → Marked (lines_at s t x) (x.end - x.start) u
+  pub marks : OnOk r (Marked (lines_at s t x) (x.end - x.start) u)
   pub front : front u ≡ front t
   pub long : length u ≡ length t
 

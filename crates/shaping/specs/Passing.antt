@@ -1,12 +1,6 @@
 -- Where phase C passes, each method is fit for phase D: one Code, room for its parameters, its marks. Assumes nothing.
-use Prim.Native.Nat.{ℕ, zero, suc, ◌+◌, ◌<◌, ◌≤◌}
 use Rattle.std.specs.Prelude.{◌≡◌, Bool, cond, eqb, leb, length, get_or}
-use Rattle.std.proofs.Math.Path.{refl, ap}
-use Rattle.std.proofs.Common.{sym, subst, ◌∙◌, le_of_suc-le-suc, length-drop, get_or-drop}
-use Rattle.std.proofs.Math.Bool.{true, false}
-use mathlib.Core.List.{List, [], ◌∷◌}
-use native.Mathlib.Omega.{arith}
-use borrow.Author.Tests.{eqb-true, leb-true}
+use Rattle.std.proofs.Common.{sym, subst, ◌∙◌, le_of_suc-le-suc, length-drop, get_or-drop, ℕ, zero, suc, ◌+◌, ◌<◌, ◌≤◌, refl, ap, true, false, List, [], ◌∷◌, arith, eqb-true, leb-true}
 use Rattle.kit.specs.Bools.{not_so}
 use Rattle.kit.specs.Claims.{Claim, claim, Ruling, pass, verdict, relabel, fail_pass, then_pass_left, then_pass_right, relabel_pass, verdict-append}
 use Rattle.reader.specs.Verdicts.{Fault, fault, in_method}

@@ -1,10 +1,7 @@
 -- Phases C and D over all methods of the bundle, class after class, as loops by index. Assumes nothing.
-use Rattle.std.specs.Prelude.{ℕ, ◌+◌, ◌<◌, ◌≤◌, ◌≡◌, refl, true, cond, List, eqb, get_or, drop}
-use Rattle.std.proofs.Math.Path.{sym, ap}
-use Rattle.std.proofs.Common.{subst, ◌∙◌, add-one, arith, length-drop, drop_of_length-le, get_or-drop, drop-cons, eq-eqb, ne_eqb}
-use Rattle.std.proofs.Math.ListN.{length}
-use Rattle.kit.specs.Claims.{Ruling, pass, fail, verdict, then, relabel, pass_then, fail_then}
-use Rattle.classfiles.specs.Limits.{unnamed}
+use Rattle.std.specs.Prelude.{ℕ, Result, Ok, Err, IsErrAnd, ◌+◌, ◌<◌, ◌≤◌, ◌≡◌, refl, true, List, get_or, drop}
+use Rattle.std.proofs.Common.{subst, ◌∙◌, add-one, arith, length-drop, drop_of_length-le, get_or-drop, drop-cons, sym, ap, length}
+use Rattle.kit.specs.Claims.{Ruling, pass, fail, verdict, then, relabel, pass_then, fail_then, ruled, handed}
 use Rattle.reader.specs.Verdicts.{Fault, fault, Refusal, in_method}
 use Rattle.reader.specs.BuiltIns.{first_class}
 use Rattle.reader.specs.Program.{Program, Class, Method, no_class, no_method, class, method, program_of}
@@ -16,12 +13,13 @@ use Rattle.rules.specs.Shape.{shape_claims}
 use Rattle.rules.specs.Frames.{frames}
 use Rattle.shaping.specs.Verify.{over_methods, over_classes, bundle_classes, walked}
 use Rattle.rules.specs.Sites.{front, program_at}
-use Rattle.shaping.specs.Marks.{ruled_as}
+use Rattle.shaping.specs.Marks.{Ruled, spot_of, ruled_as}
 use Rattle.shaping.specs.Shaping.{Shaped}
 use Rattle.shaping.specs.Located.{Prepared, Located}
 use Rattle.rules.specs.declared.site.Site.{Site}
-use Rattle.rules.specs.declared.site.Ruled.{Ruled}
-use Rattle.shaping.specs.declared.phases.Verdict.{Verdict}
+use Rattle.texts.specs.Faults.{number}
+use Rattle.texts.specs.declared.faults.Fault as code
+use Rattle.shaping.specs.declared.phases.Refused.{Refused}
 
 -- what both phases start from
 pub record Readied (s : List ℕ) (n : ℕ) (t : List ℕ) : Type 0 where
@@ -43,20 +41,19 @@ unfoldable pub typing_by : Program → Method → Ruling Fault
 typing_by P M = walked P M (frames P M)
 
 -- ---- answers
-abbrev pub verdict_as : Verdict → Ruling Refusal
-verdict_as r = cond (eqb r.number 0) pass (fail (in_method r.class r.method (fault r.number r.place)))
+abbrev pub stands : Refused → Refusal
+stands v = in_method v.class v.method (fault (number v.refusal) v.place)
 
-abbrev pub passed : Verdict
-passed = record { number = 0; class = unnamed; method = unnamed; place = 0 }
+abbrev pub verdict_as : Result (Unit {0}) Refused → Ruling Refusal
+verdict_as r = ruled stands r
 
 -- a method's ruling, and one of many methods with its place
 pub record Judged (J : Ruling Fault) (r : Ruled) (t u : List ℕ) : Type 0 where
   pub is : ruled_as r ≡ J
   pub front : front u ≡ front t
 
-pub record Done (A : Ruling Refusal) (r : Verdict) (t u : List ℕ) : Type 0 where
+pub record Done (A : Ruling Refusal) (r : Result (Unit {0}) Refused) (t u : List ℕ) : Type 0 where
   pub is : verdict_as r ≡ A
-  pub plain : r.number ≡ 0 → r ≡ passed
   pub front : front u ≡ front t
 
 -- the rulings of what is left are those of all, and the front stands
@@ -99,42 +96,35 @@ module _ (judge : Program → Method → Ruling Fault) (s : List ℕ) (n : ℕ) 
   pub methods_start : (c : ℕ) (t : List ℕ) → MethodsFrom c 0 t t
   methods_start c t = record { rest = refl; front = refl }
 
-  module _ (c m : ℕ) (t u v : List ℕ) (w : MethodsFrom c m t u) (h : m < length (class (program_now s n t) (first_class + c)).methods) (r : Ruled) (j : Judged (judged_at u c m) r u v) where
+  module _ (c m : ℕ) (t u v : List ℕ) (w : MethodsFrom c m t u) (h : m < length (class (program_now s n t) (first_class + c)).methods) where
     abbrev J : Ruling Fault
     J = judged_at t c m
 
     abbrev A : Ruling Refusal
     A = over_methods (judge (program_now s n t)) c (m + 1) (drop (m + 1) (class (program_now s n t) (first_class + c)).methods)
 
-    ruled : ruled_as r ≡ J
-    ruled = j.is ∙ moved t u c m w.front
-
     now_here : then (relabel (in_method c m) J) A ≡ of_class t c
     now_here = sym (one_more (judge (program_now s n t)) c m (class (program_now s n t) (first_class + c)).methods h) ∙ w.rest
 
-    pub methods_next : r.number ≡ 0 → MethodsFrom c (m + 1) t v
+    pub methods_next : Judged (judged_at u c m) (Ok tt) u v → MethodsFrom c (m + 1) t v
     unfolding relabel
-    methods_next z =
-        let e : J ≡ pass = sym ruled ∙ rw (eq-eqb r.number 0 z) in
+    methods_next j =
+        let e : J ≡ pass = sym (j.is ∙ moved t u c m w.front) in
         record { rest = sym (pass_then (relabel (in_method c m) J) A (ap (relabel (in_method c m)) e)) ∙ now_here; front = j.front ∙ w.front }
 
-    pub methods_stop : (r.number ≡ 0 → ⊥) → Done (of_class t c) (record { number = r.number; class = c; method = m; place = r.place }) t v
+    pub methods_stop : (f : code.Fault) → Judged (judged_at u c m) (Err f) u v → Done (of_class t c) (Err (record { refusal = f.0; class = c; method = m; place = f.1 })) t v
     unfolding relabel
-    methods_stop z =
-        let e : J ≡ fail (fault r.number r.place) = sym ruled ∙ rw (ne_eqb r.number 0 z) in
+    methods_stop f j =
+        let e : J ≡ fail (spot_of f) = sym (j.is ∙ moved t u c m w.front) in
         record {
-          is =
-              rw (ne_eqb r.number 0 z)
-              (sym (fail_then (relabel (in_method c m) J) A (in_method c m (fault r.number r.place)) (ap (relabel (in_method c m)) e)) ∙ now_here);
-          plain = λ y. absurd (z y);
+          is = sym (fail_then (relabel (in_method c m) J) A (in_method c m (spot_of f)) (ap (relabel (in_method c m)) e)) ∙ now_here;
           front = j.front ∙ w.front;
         }
 
-  pub methods_end : (c m : ℕ) (t u : List ℕ) (r : Verdict) → r ≡ passed → MethodsFrom c m t u → length (class (program_now s n t) (first_class + c)).methods ≤ m → Done (of_class t c) r t u
+  pub methods_end : (c m : ℕ) (t u : List ℕ) → MethodsFrom c m t u → length (class (program_now s n t) (first_class + c)).methods ≤ m → Done (of_class t c) (Ok tt) t u
   unfolding over_methods
-  methods_end c m t u r e w h = record {
-    is = ap (λ (q : Verdict). verdict_as q) e ∙ sym (ap (over_methods (judge (program_now s n t)) c m) (drop_of_length-le (class (program_now s n t) (first_class + c)).methods h)) ∙ w.rest;
-    plain = λ y. e;
+  methods_end c m t u w h = record {
+    is = sym (ap (over_methods (judge (program_now s n t)) c m) (drop_of_length-le (class (program_now s n t) (first_class + c)).methods h)) ∙ w.rest;
     front = w.front;
   }
 
@@ -156,15 +146,12 @@ module _ (judge : Program → Method → Ruling Fault) (s : List ℕ) (n : ℕ) 
     how_many : length (bundle_classes P) ≡ n
     how_many = length-drop first_class P.classes ∙ omega (arith, class-count s n (front t) m)
 
-    module _ (c : ℕ) (u v : List ℕ) (w : ClassesFrom c t u) (h : c < n) (r : Verdict) (j : Done (of_class u c) r u v) where
+    module _ (c : ℕ) (u v : List ℕ) (w : ClassesFrom c t u) (h : c < n) where
       abbrev C : Ruling Refusal
       C = of_class t c
 
       abbrev B : Ruling Refusal
       B = over_classes (judge P) (c + 1) (drop (c + 1) (bundle_classes P))
-
-      class_ruled : verdict_as r ≡ C
-      class_ruled = j.is ∙ moved_class t u c w.front
 
       class_here : then C B ≡ of_all t
       class_here =
@@ -172,27 +159,25 @@ module _ (judge : Program → Method → Ruling Fault) (s : List ℕ) (n : ℕ) 
           ap (λ (D : Class). then (over_methods (judge P) c 0 D.methods) B) (sym (get_or-drop first_class P.classes c no_class))
           ∙ sym (class_more (judge P) c (bundle_classes P) i) ∙ w.rest
 
-      pub classes_next : r.number ≡ 0 → ClassesFrom (c + 1) t v
-      classes_next z =
-          let e : C ≡ pass = sym class_ruled ∙ rw (eq-eqb r.number 0 z) in
+      pub classes_next : Done (of_class u c) (Ok tt) u v → ClassesFrom (c + 1) t v
+      classes_next j =
+          let e : C ≡ pass = sym (j.is ∙ moved_class t u c w.front) in
           record { rest = sym (pass_then C B e) ∙ class_here; front = j.front ∙ w.front }
 
-      pub classes_stop : (r.number ≡ 0 → ⊥) → Done (of_all t) r t v
-      classes_stop z =
-          let k : verdict_as r ≡ fail (in_method r.class r.method (fault r.number r.place)) = rw (ne_eqb r.number 0 z) in
+      pub classes_stop : (f : Refused) → Done (of_class u c) (Err f) u v → (r : Result (Unit {0}) Refused) → IsErrAnd r (λ y. y ≡ f) → Done (of_all t) r t v
+      classes_stop f j r p =
+          let e : C ≡ fail (stands f) = sym (j.is ∙ moved_class t u c w.front) in
           record {
-            is = k ∙ sym (fail_then C B (in_method r.class r.method (fault r.number r.place)) (sym class_ruled ∙ k)) ∙ class_here;
-            plain = j.plain;
+            is = handed stands r f p ∙ sym (fail_then C B (stands f) e) ∙ class_here;
             front = j.front ∙ w.front;
           }
 
-    pub classes_end : (c : ℕ) (u : List ℕ) (r : Verdict) → r ≡ passed → ClassesFrom c t u → n ≤ c → Done (of_all t) r t u
+    pub classes_end : (c : ℕ) (u : List ℕ) → ClassesFrom c t u → n ≤ c → Done (of_all t) (Ok tt) t u
     unfolding over_classes
-    classes_end c u r e w h =
+    classes_end c u w h =
         let i : length (bundle_classes P) ≤ c = omega (arith, how_many) in
         record {
-          is = ap (λ (q : Verdict). verdict_as q) e ∙ sym (ap (over_classes (judge P) c) (drop_of_length-le (bundle_classes P) i)) ∙ w.rest;
-          plain = λ y. e;
+          is = sym (ap (over_classes (judge P) c) (drop_of_length-le (bundle_classes P) i)) ∙ w.rest;
           front = w.front;
         }
 

@@ -1,24 +1,17 @@
 -- The resolved table as the code fills it: each word, and what it has to stand for. Assumes nothing.
-use Rattle.std.specs.Prelude.{ℕ, zero, suc, ◌+◌, ◌-◌, ◌*◌, ◌/◌, ◌%◌, ◌^◌, ◌<◌, ◌≤◌, ◌≡◌, not, ◌⊎◌, get_or, take, drop, replicate}
-use Rattle.std.proofs.Math.Path.{refl, sym, ap, subst}
-use Rattle.std.proofs.Common.{◌∙◌, inl, inr, length-take, length-drop, take-take, length-take-le, get_or-drop, ext_get_or}
-use mathlib.Core.List.{List, [], ◌∷◌, ◌++◌, map}
-use Rattle.std.proofs.Math.Bool.{Bool, true, false, cond}
-use native.Mathlib.Omega.{arith}
-use Rattle.std.proofs.Math.Dec.{ltb, eqb}
-use Rattle.std.proofs.Math.ListN.{length}
+use Rattle.std.specs.Prelude.{ℕ, Option, Some, None, IfSome, zero, suc, ◌+◌, ◌-◌, ◌*◌, ◌/◌, ◌%◌, ◌^◌, ◌<◌, ◌≤◌, ◌≡◌, ◌⊎◌, get_or, take, drop, replicate}
+use Rattle.std.proofs.Common.{◌∙◌, inl, inr, length-take, length-drop, take-take, length-take-le, get_or-drop, ext_get_or, refl, sym, ap, subst, List, [], ◌∷◌, ◌++◌, map, Bool, true, false, cond, arith, ltb, eqb, length, eqb-true, ltb-true, eq-eqb, ne_eqb, lt-ltb, le-ltb}
 use Rattle.std.proofs.lemmas.List.{length-replicate, take-append-le}
-use borrow.Author.Tests.{eqb-true, eqb-false, ltb-true, eq-eqb, ne_eqb, lt-ltb, le-ltb, not-true, not-false}
+use Rattle.std.proofs.lemmas.Bool.{eqb-false}
 use Rattle.kit.specs.Bools.{not_so}
 use Rattle.kit.specs.Lists.{eq_list, eq_list_true, drop-take, length_part, length_back, get_or-back-after}
 use Rattle.kit.specs.Pick.{side}
 use Rattle.kit.specs.Words.{word, put_word, length_put, byte_other, word-take, word_same, word_other, word-zeros, word-back_in}
 use Rattle.texts.specs.Reading.{Res, ok, bad, u2_at, u4_at, part}
 use Rattle.texts.specs.Names.{Text, is_init}
-use Rattle.texts.specs.Answers.{res_as, no_ok, no_bad}
 use Rattle.classfiles.specs.Descriptors.{Ref, cls, arr, Desc, dint, dref, class_type_at, known_ref, known_desc}
 use Rattle.classfiles.specs.Pool.{Constant, absent, utf8, integer, class_at, fieldref, methodref, name_and_type, constant_at, entry, text}
-use Rattle.classfiles.specs.Table.{constant_of, IsText, entry_none, entry_in_lem, entry_past}
+use Rattle.classfiles.specs.Table.{constant_of, entry_none, entry_in_lem, entry_past}
 use Rattle.classfiles.specs.Tags.{at_class, at_field, at_method}
 use Rattle.classfiles.specs.Bundle.{ClassFile}
 use Rattle.reader.specs.BuiltIns.{first_class}
@@ -32,10 +25,9 @@ use Rattle.reader.specs.Lookup.{hit_of, own_spot, class_past, class-count, built
 use Rattle.reader.specs.MemberAt.{fields-count, methods-count}
 use Rattle.reader.specs.TypeCodes as codes
 use Rattle.reader.specs.Access.{Limited, There, lookup_there, own_there, program-names, pool-at, tag_block}
-use Rattle.texts.specs.declared.items.Got.{Got}
 use Rattle.reader.specs.declared.lookup.Hit.{Hit}
-use Rattle.classfiles.specs.declared.pool.Span.{Span}
 use Rattle.classfiles.specs.declared.pool.Entry.{Entry}
+use Rattle.classfiles.specs.declared.pool.Entry.TheVariants as held
 use Rattle.rules.specs.Instruction.{FieldRef, MethodRef}
 use Rattle.rules.specs.Resolve.{Resolved, by, nothing, number, type, field, method_of, number_of, known_type, class_entry, with_class, with_signature, field_found, method_found, own_method, field_in, method_in, resolve_entry, resolve, found}
 use Rattle.rules.specs.TypeWords as tywords
@@ -54,8 +46,9 @@ pub record ResolvedAll (s : List ℕ) (n : ℕ) (t : List ℕ) : Type 0 where
   pub flags : (c i : ℕ) → c < n → words.Flagged (program_of (files_in s n t)) (words.word_of t c i)
 
 -- a type's code, where there is one
-unfoldable pub type_as : Got → Resolved
-type_as r = cond r.ok (type (code_ref r.val)) nothing
+abbrev pub type_as : Option ℕ → Resolved
+type_as (Some k) = type (code_ref k)
+type_as None = nothing
 
 abbrev pub member_in : Program → Bool → ℕ → Signature → Resolved
 member_in P true c g = method_in P g c
@@ -91,8 +84,9 @@ pub record Classed (s : List ℕ) (n : ℕ) (t : List ℕ) : Type 0 where
   pub at : (c i : ℕ) → c < n → (k : ℕ → Resolved)
       → with_class (words.resolved_in s t c i) k ≡ with_class (class_entry (program_of (files_in s n t)) (pool_of s (block_at t c)) (entry (pool_of s (block_at t c)) i)) k
 
-unfoldable pub type_word : Got → ℕ
-type_word d = cond d.ok (2 + 8 * d.val) 0
+abbrev pub type_word : Option ℕ → ℕ
+type_word (Some k) = 2 + 8 * k
+type_word None = 0
 
 abbrev pub field_word : ℕ → ℕ → ℕ → ℕ → ℕ
 field_word code named owner slot = 3 + 8 * code + 2048 * named + 65536 * owner + 2097152 * slot
@@ -177,20 +171,17 @@ module _ (s : List ℕ) (P : Program) where
         flags = unflagged P (1 + 8 * q) (λ z. omega (arith, a));
       }
 
-  pub named-type : (d : Got) (w : ℕ) → w ≡ type_word d → d.val < 256 → Named s P (type_as d) w
-  unfolding words.resolved_as type_as type_word
-  named-type d w e h = named-word (type_as d) w (type_word d) e (go d.ok)
-    where
-      go : (b : Bool) → Named s P (cond b (type (code_ref d.val)) nothing) (cond b (2 + 8 * d.val) 0)
-      go false = named_none nothing refl
-      go true =
-          let a : (2 + 8 * d.val) % 8 ≡ 2 = omega arith in
-          let b₀ : (2 + 8 * d.val) / 8 ≡ d.val + 256 * 0 = omega arith in
-          let b : (2 + 8 * d.val) / 8 % 256 ≡ d.val = low256 ((2 + 8 * d.val) / 8) d.val 0 h b₀ in
-          record {
-            is = rw (ne_eqb ((2 + 8 * d.val) % 8) 1 (λ z. omega (arith, a)), eq-eqb ((2 + 8 * d.val) % 8) 2 a) (ap (λ (k : ℕ). type (code_ref k)) b);
-            flags = unflagged P (2 + 8 * d.val) (λ z. omega (arith, a));
-          }
+  pub named-type : (d : Option ℕ) (w : ℕ) → w ≡ type_word d → IfSome d (λ k. k < 256) → Named s P (type_as d) w
+  unfolding words.resolved_as
+  named-type None w e h = named-word nothing w 0 e (named_none nothing refl)
+  named-type (Some k) w e h =
+      let a : (2 + 8 * k) % 8 ≡ 2 = omega arith in
+      let b₀ : (2 + 8 * k) / 8 ≡ k + 256 * 0 = omega arith in
+      let b : (2 + 8 * k) / 8 % 256 ≡ k = low256 ((2 + 8 * k) / 8) k 0 h b₀ in
+      named-word (type (code_ref k)) w (2 + 8 * k) e (record {
+        is = rw (ne_eqb ((2 + 8 * k) % 8) 1 (λ z. omega (arith, a)), eq-eqb ((2 + 8 * k) % 8) 2 a) (ap (λ (j : ℕ). type (code_ref j)) b);
+        flags = unflagged P (2 + 8 * k) (λ z. omega (arith, a));
+      })
 
   module _ (code named owner slot : ℕ) (hc : code < 256) (hn : named < 32) (ho : owner < 32) (hs : slot < 1024) where
     abbrev W : ℕ
@@ -263,50 +254,51 @@ module _ (s : List ℕ) (n : ℕ) (t : List ℕ) (m : n ≤ 16) (pool : List Con
   class-entry : class_entry P₁ pool (class_at i) ≡ known_type P₁ (class_type_at (codes.number_by s n t) (text pool i) 0)
   class-entry = ap (λ (ns : List Text). known_type P₁ (class_type_at (number_in ns) (text pool i) 0)) (program-names (files_in s n t))
 
-  module _ (p : Span) (hp : IsText s p (text pool i)) (d : Got) (l : d.val < 256)
-      (k : res_as d (codes.ref_of d.val) ≡ class_type_at (codes.number_by s n t) (take (p.end - p.start) (drop p.start s)) 0) where
-    read : res_as d (codes.ref_of d.val) ≡ class_type_at (codes.number_by s n t) (text pool i) 0
-    read = k ∙ ap (λ (x : Text). class_type_at (codes.number_by s n t) x 0) hp.is
+  module _ (p : Text) (hp : p ≡ text pool i) where
+    read : (r : Res Ref) → r ≡ class_type_at (codes.number_by s n t) p 0 → r ≡ class_type_at (codes.number_by s n t) (text pool i) 0
+    read r k = k ∙ ap (λ (x : Text). class_type_at (codes.number_by s n t) x 0) hp
 
-    pub class_bad : not d.ok ≡ true → nothing ≡ class_entry P₁ pool (class_at i)
-    class_bad h = sym (class-entry ∙ ap (known_type P₁) (no_bad _ d (codes.ref_of d.val) read h))
+    pub class_bad : (f q : ℕ) → bad f q ≡ class_type_at (codes.number_by s n t) p 0 → nothing ≡ class_entry P₁ pool (class_at i)
+    class_bad f q k = sym (class-entry ∙ sym (ap (known_type P₁) (read (bad f q) k)))
 
-    module _ (h : not d.ok ≡ false) where
-      good : class_entry P₁ pool (class_at i) ≡ cond (known_ref (class_count P₁) (codes.ref_of d.val)) (type (codes.ref_of d.val)) nothing
-      good = class-entry ∙ ap (known_type P₁) (no_ok _ d (codes.ref_of d.val) read h)
+    module _ (v e : ℕ) (l : v < 256) (k : ok (codes.ref_of v) e ≡ class_type_at (codes.number_by s n t) p 0) where
+      good : class_entry P₁ pool (class_at i) ≡ cond (known_ref (class_count P₁) (codes.ref_of v)) (type (codes.ref_of v)) nothing
+      good = class-entry ∙ sym (ap (known_type P₁) (read (ok (codes.ref_of v) e) k))
 
-      pub class_int : d.val ≡ 248 → nothing ≡ class_entry P₁ pool (class_at i)
+      pub class_int : v ≡ 248 → nothing ≡ class_entry P₁ pool (class_at i)
       unfolding known_ref codes.ref_of codes.desc_of codes.ref_in codes.nested codes.base_of
-      class_int e = sym (good ∙ ap (λ (v : ℕ). cond (known_ref (class_count P₁) (codes.ref_of v)) (type (codes.ref_of v)) nothing) e ∙ rw (le-ltb 31 (class_count P₁) (rw (class-count s n t m) (omega arith))))
+      class_int z = sym (good ∙ ap (λ (v : ℕ). cond (known_ref (class_count P₁) (codes.ref_of v)) (type (codes.ref_of v)) nothing) z ∙ rw (le-ltb 31 (class_count P₁) (rw (class-count s n t m) (omega arith))))
 
-      module _ (f : d.val ≡ 248 → ⊥) (b : Bool) (g : b ≡ known_desc (first_class + n) (codes.desc_of d.val)) where
-        same_known : known_ref (class_count P₁) (codes.ref_of d.val) ≡ b
+      module _ (f : v ≡ 248 → ⊥) (b : Bool) (g : b ≡ known_desc (first_class + n) (codes.desc_of v)) where
+        same_known : known_ref (class_count P₁) (codes.ref_of v) ≡ b
         unfolding known_desc known_ref
-        same_known = sym (g ∙ ap (known_desc (first_class + n)) (desc_ref d.val f l) ∙ ap (λ (c : ℕ). known_ref c (codes.ref_of d.val)) (sym (class-count s n t m)))
+        same_known = sym (g ∙ ap (known_desc (first_class + n)) (desc_ref v f l) ∙ ap (λ (c : ℕ). known_ref c (codes.ref_of v)) (sym (class-count s n t m)))
 
-        pub class_known : b ≡ true → type_as d ≡ class_entry P₁ pool (class_at i)
-        unfolding type_as
-        class_known y = sym (good ∙ rw (same_known, y, not-false d.ok h) (ap type (sym (code-ref d.val l))))
+        pub class_known : b ≡ true → type (code_ref v) ≡ class_entry P₁ pool (class_at i)
+        class_known y = sym (good ∙ rw (same_known, y) (ap type (sym (code-ref v l))))
 
         pub class_unknown : b ≡ false → nothing ≡ class_entry P₁ pool (class_at i)
         class_unknown y = sym (good ∙ rw (same_known, y))
 
 -- ---- by the kind of an entry
-module _ (s : List ℕ) (e v : Entry) (x : Constant) (p : constant_of s e ≡ x) (k : e ≡ v) where
-  pub entry_is : constant_of s v ≡ x
-  entry_is = ap (constant_of s) (sym k) ∙ p
+module _ (s : List ℕ) (P : Program) (pool : List Constant) (e : Entry) (x : Constant) (p : constant_of e ≡ x) (f : Signature → Resolved) where
+  pub signature_none : ((i j : ℕ) → e ≡ held.NameAndType i j → ⊥) → Named s P (with_signature pool x f) 0
+  signature_none h = named_none s P (with_signature pool x f) (by e h ∙ ap (λ (y : Constant). with_signature pool y f) p)
+    where
+      by : (v : Entry) → ((i j : ℕ) → v ≡ held.NameAndType i j → ⊥) → nothing ≡ with_signature pool (constant_of v) f
+      by held.Absent n = refl
+      by (held.Utf8 t) n = refl
+      by (held.Integer v) n = refl
+      by (held.Class i) n = refl
+      by (held.Field i j) n = refl
+      by (held.Method i j) n = refl
+      by (held.NameAndType i j) n = absurd (n i j refl)
 
-  pub signature_none : (P : Program) (pool : List Constant) (f : Signature → Resolved) → nothing ≡ with_signature pool (constant_of s v) f → Named s P (with_signature pool x f) 0
-  signature_none P pool f h = named_none s P (with_signature pool x f) (h ∙ ap (λ (y : Constant). with_signature pool y f) entry_is)
-
-  pub signature_some : (P : Program) (pool : List Constant) (f : Signature → Resolved) (w : ℕ) → Named s P (with_signature pool (constant_of s v) f) w → Named s P (with_signature pool x f) w
-  signature_some P pool f w h = named_as s P _ _ w h (ap (λ (y : Constant). with_signature pool y f) entry_is)
-
--- the texts of a NameAndType
-pub texts_as : (s : List ℕ) (P : Program) (pool : List Constant) (i j : ℕ) (p q : Span) (f : Signature → Resolved) (w : ℕ) → IsText s p (text pool i) → IsText s q (text pool j)
-    → Named s P (f (signature (take (p.end - p.start) (drop p.start s)) (take (q.end - q.start) (drop q.start s)))) w → Named s P (f (signature (text pool i) (text pool j))) w
-texts_as s P pool i j p q f w hp hq h =
-    named_as s P _ _ w h (ap (λ (x : Text). f (signature x (take (q.end - q.start) (drop q.start s)))) hp.is ∙ ap (λ (y : Text). f (signature (text pool i) y)) hq.is)
+  pub signature_some : (i j w : ℕ) (a b : Text) → e ≡ held.NameAndType i j → a ≡ text pool i → b ≡ text pool j → Named s P (f (signature a b)) w → Named s P (with_signature pool x f) w
+  signature_some i j w a b k h g y =
+      named_as s P _ _ w y
+      (ap (λ (u : Text). f (signature u b)) h ∙ ap (λ (u : Text). f (signature (text pool i) u)) g
+      ∙ ap (λ (v : Entry). with_signature pool (constant_of v) f) (sym k) ∙ ap (λ (y : Constant). with_signature pool y f) p)
 
 module _ (s : List ℕ) (P : Program) (w : ℕ) where
   pub member-method : (m : Bool) (c : ℕ) (g : Signature) → m ≡ true → Named s P (method_in P g c) w → Named s P (member_in P m c g) w
@@ -337,7 +329,7 @@ module _ (s : List ℕ) (q : ℕ) (P : Program) (pool : List Constant) (x : Cons
       let z : integer (u4_at s (q + 1)) ≡ x = sym (rw (← e, t)) ∙ p in
       fills_own (1 + 8 * q) (named_as s P _ _ _ (named-number s P q (u4_at s (q + 1)) refl) (ap (own_entry P pool) z))
 
-  pub own_type : (a w : ℕ) → k ≡ 7 → a ≡ u2_at s (q + 1) → (d : Got) → type_as d ≡ class_entry P pool (class_at a) → d.val < 256 → w ≡ type_word d → Fills s P pool false x w
+  pub own_type : (a w : ℕ) → k ≡ 7 → a ≡ u2_at s (q + 1) → (d : Option ℕ) → type_as d ≡ class_entry P pool (class_at a) → IfSome d (λ k. k < 256) → w ≡ type_word d → Fills s P pool false x w
   own_type a w t h d y l z = fills_own w (named_as s P _ _ w (named-type s P d w z l) (y ∙ ap (own_entry P pool) (sym (at_class s q x k p e a t h))))
 
   pub own_none : (k ≡ 3 → ⊥) → (k ≡ 7 → ⊥) → Fills s P pool false x 0
@@ -601,24 +593,19 @@ module _ (s : List ℕ) (n : ℕ) (t : List ℕ) (m : n ≤ 16) (lim : Limited n
       left false b e = e
 
   -- the code's answer, for fields
-  module _ (r : Hit) (named : ℕ) (h : hit_of r ≡ lookup P₂ field_sigs g named) where
-    pub field_none : not r.found ≡ true → Named s P₂ (field_in P₂ g named) 0
-    unfolding field_in
-    field_none e =
-        let z : lookup P₂ field_sigs g named ≡ nowhere = sym h ∙ rw (not-true r.found e) in
-        named_none s P₂ (field_in P₂ g named) (sym (ap (field_found P₂ named) z))
+  pub field_none : (named : ℕ) → nowhere ≡ lookup P₂ field_sigs g named → Named s P₂ (field_in P₂ g named) 0
+  unfolding field_in
+  field_none named h = named_none s P₂ (field_in P₂ g named) (ap (field_found P₂ named) h)
 
-    at-spot : not r.found ≡ false → lookup P₂ field_sigs g named ≡ spot r.class r.index
-    at-spot e = sym h ∙ rw (not-false r.found e)
+  module _ (r : Hit) (named : ℕ) (h : spot r.class r.index ≡ lookup P₂ field_sigs g named) where
+    pub field_there : FieldSpot r.class r.index
+    field_there = field-spot r.class r.index (lookup_there P₂ field_sigs g named r.class r.index (sym h))
 
-    pub field_there : not r.found ≡ false → FieldSpot r.class r.index
-    field_there e = field-spot r.class r.index (lookup_there P₂ field_sigs g named r.class r.index (at-spot e))
-
-    pub field_some : not r.found ≡ false → named < 32 → (code up size : ℕ) → codes.desc_of code ≡ (get_or (class P₂ (first_class + (r.class - 11))).fields r.index no_field).type → code < 256
+    pub field_some : named < 32 → (code up size : ℕ) → codes.desc_of code ≡ (get_or (class P₂ (first_class + (r.class - 11))).fields r.index no_field).type → code < 256
         → up ≡ (class P₂ r.class).parent → size ≡ length (layout P₂ up) → size ≤ 864 → Named s P₂ (field_in P₂ g named) (field_word code named r.class (size + r.index))
     unfolding field_in
-    field_some e l code up size ec lc eu es ls =
-        let x = field_there e in
+    field_some l code up size ec lc eu es ls =
+        let x = field_there in
         let z : first_class + (r.class - 11) ≡ r.class = omega (arith, x.low) in
         let o : r.class < 32 = omega (arith, x.high) in
         let q : size + r.index < 1024 = omega (arith, x.small) in
@@ -627,20 +614,24 @@ module _ (s : List ℕ) (n : ℕ) (t : List ℕ) (m : n ≤ 16) (lim : Limited n
         named_as s P₂ _ (field_in P₂ g named) _
         (named-field s P₂ code named r.class (size + r.index) lc l o q
         (record { named = named; owner = r.class; slot = length (layout P₂ (class P₂ r.class).parent) + r.index; type = (get_or (class P₂ r.class).fields r.index no_field).type }) refl refl w y)
-        (sym (ap (field_found P₂ named) (at-spot e)))
+        (ap (field_found P₂ named) h)
 
   -- for methods
-  module _ (r : Hit) (found : r.found ≡ true) where
-    there_fits : There P₂ method_sigs g r.class r.index → (b : Bool) → is_init g.name ≡ b → (r.class < 32) × (r.index < 64) × (is_constructor (method P₂ r.class r.index) ≡ b)
-    there_fits h b e = ((method-spot r.class r.index h).0, (method-spot r.class r.index h).1, method-name r.class r.index h ∙ e)
+  abbrev pub Fits : Bool → Hit → Type 0
+  Fits b r = (r.class < 32) × (r.index < 64) × (is_constructor (method P₂ r.class r.index) ≡ b)
 
-    pub own_fits : (c : ℕ) (b : Bool) → hit_of r ≡ own_spot P₂ method_sigs g c → is_init g.name ≡ b → (r.class < 32) × (r.index < 64) × (is_constructor (method P₂ r.class r.index) ≡ b)
-    own_fits c b h e = there_fits (own_there P₂ method_sigs g c r.class r.index (sym h ∙ rw found)) b e
+  there_fits : (r : Hit) → There P₂ method_sigs g r.class r.index → (b : Bool) → is_init g.name ≡ b → Fits b r
+  there_fits r h b e = ((method-spot r.class r.index h).0, (method-spot r.class r.index h).1, method-name r.class r.index h ∙ e)
 
-    pub seek-fits : (c : ℕ) (b : Bool) → hit_of r ≡ lookup P₂ method_sigs g c → is_init g.name ≡ b → (r.class < 32) × (r.index < 64) × (is_constructor (method P₂ r.class r.index) ≡ b)
-    seek-fits c b h e = there_fits (lookup_there P₂ method_sigs g c r.class r.index (sym h ∙ rw found)) b e
+  pub own_fits : (r : Option Hit) (c : ℕ) (b : Bool) → hit_of r ≡ own_spot P₂ method_sigs g c → is_init g.name ≡ b → IfSome r (Fits b)
+  own_fits None c b h e = tt
+  own_fits (Some r) c b h e = there_fits r (own_there P₂ method_sigs g c r.class r.index (sym h)) b e
 
-module _ (s : List ℕ) (P : Program) (g : Signature) (named : ℕ) (w : ℕ) (r : Hit) (h : Named s P (method_found named (hit_of r)) w) where
+  pub seek-fits : (r : Option Hit) (c : ℕ) (b : Bool) → hit_of r ≡ lookup P₂ method_sigs g c → is_init g.name ≡ b → IfSome r (Fits b)
+  seek-fits None c b h e = tt
+  seek-fits (Some r) c b h e = there_fits r (lookup_there P₂ method_sigs g c r.class r.index (sym h)) b e
+
+module _ (s : List ℕ) (P : Program) (g : Signature) (named : ℕ) (w : ℕ) (r : Option Hit) (h : Named s P (method_found named (hit_of r)) w) where
   pub method_own : is_init g.name ≡ true → hit_of r ≡ own_spot P method_sigs g named → Named s P (method_in P g named) w
   unfolding method_in own_method own_spot
   method_own e k = named_as s P _ (method_in P g named) w h (sym (rw e (ap (method_found named) (sym k))))
@@ -649,14 +640,12 @@ module _ (s : List ℕ) (P : Program) (g : Signature) (named : ℕ) (w : ℕ) (r
   unfolding method_in
   method-seek e k = named_as s P _ (method_in P g named) w h (sym (rw e (ap (method_found named) (sym k))))
 
-module _ (s : List ℕ) (P : Program) (named : ℕ) (r : Hit) where
-  pub hit_none : not r.found ≡ true → Named s P (method_found named (hit_of r)) 0
-  hit_none e = named_none s P (method_found named (hit_of r)) (sym (rw (not-true r.found e)))
+pub hit_none : (s : List ℕ) (P : Program) (named : ℕ) → Named s P (method_found named nowhere) 0
+hit_none s P named = named_none s P (method_found named nowhere) refl
 
-  pub hit_some : not r.found ≡ false → named < 32 → (init : Bool) → (r.class < 32) × (r.index < 64) × (is_constructor (method P r.class r.index) ≡ init)
-      → (fixed : Bool) → fixed ≡ (method P r.class r.index).static → Named s P (method_found named (hit_of r)) (method_word named r.class r.index fixed init)
-  hit_some e l init k fixed f =
-      named_as s P _ (method_found named (hit_of r)) _ (named-method s P named r.class r.index fixed init l k.0 k.1 k.2 f) (sym (rw (not-false r.found e)))
+pub hit_some : (s : List ℕ) (P : Program) (named : ℕ) (r : Hit) → named < 32 → (init : Bool) → (r.class < 32) × (r.index < 64) × (is_constructor (method P r.class r.index) ≡ init)
+    → (fixed : Bool) → fixed ≡ (method P r.class r.index).static → Named s P (method_found named (spot r.class r.index)) (method_word named r.class r.index fixed init)
+hit_some s P named r l init k fixed f = named_as s P _ (method_found named (spot r.class r.index)) _ (named-method s P named r.class r.index fixed init l k.0 k.1 k.2 f) refl
 
 -- ---- the table, word by word; what stands below it does not change
 drop_put : (m : ℕ) (b : List ℕ) (k v : ℕ) → k < m → drop (4 * m) (put_word b k v) ≡ drop (4 * m) b

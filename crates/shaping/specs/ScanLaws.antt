@@ -1,9 +1,7 @@
 -- Laws of the scan that marks a method's instructions: its turns and its ends. Assumes nothing.
-use Rattle.std.specs.Prelude.{ℕ, ◌+◌, ◌-◌, ◌<◌, ◌≤◌, ◌≡◌, refl, set}
-use Rattle.std.proofs.Math.Path.{sym, ap, subst}
-use Rattle.std.proofs.Common.{◌∙◌, arith, length-set}
-use mathlib.Core.List.{List}
-use Rattle.std.proofs.Math.ListN.{length}
+use Rattle.texts.specs.declared.faults.Refusal.TheVariants.{Opcode}
+use Rattle.std.specs.Prelude.{Option, Some, None, ℕ, Ok, Err, OnOk, ◌+◌, ◌-◌, ◌<◌, ◌≤◌, ◌≡◌, refl, set}
+use Rattle.std.proofs.Common.{◌∙◌, arith, length-set, sym, ap, subst, List, length}
 use Rattle.kit.specs.Lists.{length_part}
 use Rattle.kit.specs.Claims.{fail, verdict, verdict_none}
 use Rattle.texts.specs.Reading.{part}
@@ -15,13 +13,12 @@ use Rattle.rules.specs.Opcodes.{body, code_of, instruction, size_at}
 use Rattle.rules.specs.Lines.{Line, lines}
 use Rattle.rules.specs.Shape.{form_claims}
 use Rattle.rules.specs.Sites.{front, site_code, site_body, Sited, Bounded, program_at, method_at, KnowsInit, Here}
-use Rattle.shaping.specs.Asks.{Says, mark_by, mark_zero, mark_some}
+use Rattle.shaping.specs.Asks.{Says, mark_by, mark_none, mark_some}
 use Rattle.shaping.specs.SiteLaws.{one_body, code_is, site_says}
-use Rattle.shaping.specs.Marks.{lines_at, Cleared, Marked, Scanned, Ready}
+use Rattle.shaping.specs.Marks.{Ruled, lines_at, Cleared, Marked, Scanned, Ready}
 use Rattle.shaping.specs.LineLaws.{rest, rest_all, rest_end, form_unlisted, form_cut, form_bad, form_good}
 use Rattle.shaping.specs.MarkLaws.{marked_front, Marking, marking_start, marking_turn, marking_end}
 use Rattle.rules.specs.declared.site.Site.{Site}
-use Rattle.rules.specs.declared.site.Ruled.{Ruled}
 
 -- where only the front is the same, the site is
 pub here_front : (s t u : List ℕ) (x : Site) → front u ≡ front t → Here s t x → Here s u x
@@ -96,13 +93,13 @@ module _ (s t : List ℕ) (x : Site) (h : Here s t x) (one : x.codes ≡ 1) wher
     long = refl;
   }
 
-  pub scan_end : (u : List ℕ) (o : ℕ) → length (site_code s x) ≤ o → Scanning s t x u o → Scanned s t x (record { number = 0; place = 0 }) u
+  pub scan_end : (u : List ℕ) (o : ℕ) → length (site_code s x) ≤ o → Scanning s t x u o → Scanned s t x (Ok tt) u
   unfolding form_claims
   scan_end u o l z =
       let g : length (code_of M) ≤ o = omega (arith, long_here) in
       record {
         is = sym (verdict_none) ∙ ap (λ (ls : List Line). verdict (form_claims M ls)) (sym (rest_end P M o g)) ∙ z.claims;
-        marks = λ n. all_marked u o l z.marking;
+        marks = all_marked u o l z.marking;
         front = z.front;
         long = z.long;
       }
@@ -117,29 +114,29 @@ module _ (s t : List ℕ) (x : Site) (h : Here s t x) (one : x.codes ≡ 1) wher
     inside : o < length (code_of M)
     inside = omega (arith, long_here)
 
-    stopped : fail (fault 11 o) ≡ verdict (form_claims M (lines_at s t x)) → Scanned s t x (record { number = 11; place = o }) u
-    stopped e = record { is = e; marks = λ y. absurd (omega arith); front = z.front; long = z.long }
+    stopped : fail (fault 11 o) ≡ verdict (form_claims M (lines_at s t x)) → Scanned s t x (Err (record { 0 = Opcode; 1 = o })) u
+    stopped e = record { is = e; marks = tt; front = z.front; long = z.long }
 
-    pub scan_unlisted : n ≡ 0 → Scanned s t x (record { number = 11; place = o }) u
+    pub scan_unlisted : n ≡ 0 → Scanned s t x (Err (record { 0 = Opcode; 1 = o })) u
     scan_unlisted e = stopped (form_unlisted P M o n I _ z.claims inside size_here refl e)
 
     module _ (y : n ≡ 0 → ⊥) where
-      pub scan_cut : length (site_code s x) - o < n → Scanned s t x (record { number = 11; place = o }) u
+      pub scan_cut : length (site_code s x) - o < n → Scanned s t x (Err (record { 0 = Opcode; 1 = o })) u
       scan_cut e = stopped (form_cut P M o n I _ z.claims inside size_here refl y (omega (arith, long_here)))
 
-      module _ (k : n ≤ length (site_code s x) - o) (v : ℕ) (d : Says (mark_by x.locals) s u x.class (site_code s x) o v) where
+      module _ (k : n ≤ length (site_code s x) - o) where
         fits : n ≤ length (code_of M) - o
         fits = omega (arith, long_here)
 
-        marked_here : v ≡ mark_by (body M).max_locals I
-        marked_here = site_says (mark_by x.locals) s t u x h one z.front o v d ∙ ap (λ (j : ℕ). mark_by j I) (sym locals_here)
+        marked_here : (v : Option ℕ) → Says (mark_by x.locals) s u x.class (site_code s x) o v → v ≡ mark_by (body M).max_locals I
+        marked_here v d = site_says (mark_by x.locals) s t u x h one z.front o v d ∙ ap (λ (j : ℕ). mark_by j I) (sym locals_here)
 
-        pub scan_bad : v ≡ 0 → Scanned s t x (record { number = 11; place = o }) u
-        scan_bad e = stopped (form_bad P M o n I _ z.claims inside size_here refl y fits (mark_zero (body M).max_locals I v marked_here e))
+        pub scan_bad : Says (mark_by x.locals) s u x.class (site_code s x) o None → Scanned s t x (Err (record { 0 = Opcode; 1 = o })) u
+        scan_bad d = stopped (form_bad P M o n I _ z.claims inside size_here refl y fits (mark_none (body M).max_locals I (marked_here None d)))
 
-        pub scan_turn : (v ≡ 0 → ⊥) → 256640 + o < length u → Scanning s t x (set u (256640 + o) v) (o + n)
-        scan_turn e g =
-            let m = mark_some (body M).max_locals I v marked_here e in
+        pub scan_turn : (v : ℕ) → Says (mark_by x.locals) s u x.class (site_code s x) o (Some v) → 256640 + o < length u → Scanning s t x (set u (256640 + o) v) (o + n)
+        scan_turn v d g =
+            let m = mark_some (body M).max_locals I v (marked_here (Some v) d) in
             record {
               claims = form_good P M o n I _ z.claims inside size_here refl y fits m.0;
               marking = marking_turn P M u o n v I inside size_here y refl m.1 g z.marking;
@@ -153,7 +150,7 @@ mark_after s t m u x r c z =
     let q : lines_at s m x ≡ lines_at s t x = lines-front s t m x c.front in
     record {
       is = z.is ∙ ap (λ (f : List ℕ). verdict (form_claims (method_at s f x) (lines_at s m x))) c.front ∙ ap (λ (ls : List Line). verdict (form_claims (method_at s (front t) x) ls)) q;
-      marks = λ n. subst (λ (ls : List Line). Marked ls (x.end - x.start) u) q (z.marks n);
+      marks = subst (λ (ls : List Line). OnOk r (Marked ls (x.end - x.start) u)) q z.marks;
       front = z.front ∙ c.front;
       long = z.long ∙ c.long;
     }

@@ -1,10 +1,6 @@
 -- Laws of phase C over a method at a site: references, the exception table, the whole. Assumes nothing.
-use Prim.Native.Nat.{ℕ, zero, suc, ◌+◌, ◌-◌, ◌<◌, ◌≤◌}
-use Rattle.std.proofs.Math.Path.{◌≡◌, refl, sym, ap, subst}
-use Rattle.std.proofs.Common.{◌∙◌, arith, not-suc-le-zero, sub-one, eq-eqb, ne_eqb, eqb-true, lt-ltb, le-ltb}
-use Rattle.std.specs.Prelude.{Bool, not, eqb, ltb, length}
-use Rattle.std.proofs.Math.Bool.{true, false, cond}
-use mathlib.Core.List.{List, [], ◌∷◌}
+use Rattle.std.proofs.Common.{◌∙◌, arith, not-suc-le-zero, sub-one, eq-eqb, ne_eqb, eqb-true, lt-ltb, le-ltb, ℕ, zero, suc, ◌+◌, ◌-◌, ◌*◌, ◌<◌, ◌≤◌, ◌≡◌, refl, sym, ap, subst, true, false, cond, List, [], ◌∷◌}
+use Rattle.std.specs.Prelude.{Err, Bool, not, eqb, ltb, length}
 use Rattle.std.proofs.lemmas.Bool.{eqb-false, not-true, not-false}
 use Rattle.kit.specs.Words.{word-take}
 use Rattle.kit.specs.Claims.{claim, Ruling, pass, fail, verdict, verdict_none, verdict_yes, verdict_no}
@@ -21,6 +17,8 @@ use Rattle.rules.specs.Ancestry.{lineage, Parents, below_lineage}
 use Rattle.rules.specs.Sites.{front, site_code, program_at, method_at}
 use Rattle.shaping.specs.Asks.{Says, refer_by}
 use Rattle.shaping.specs.SiteLaws.{word-front, site_says}
+use Rattle.texts.specs.Faults.{number}
+use Rattle.texts.specs.declared.faults.Refusal.{Refusal}
 use Rattle.shaping.specs.Marks.{ruled_as, lines_at, Ready}
 use Rattle.shaping.specs.LineLaws.{rest, rest_all, rest_end, rest_last, rest_more}
 use Rattle.shaping.specs.ScanLaws.{code_here, code-length}
@@ -116,13 +114,13 @@ module _ (s t : List ℕ) (x : Site) (y : Ready s t x) where
     inside : o < length (code_of M)
     inside = omega (arith, long_site)
 
-    pub refer_no : (v ≡ 0 → ⊥) → ruled_as (record { number = v; place = o }) ≡ verdict (reference_claims all all)
+    pub refer_no : (r : Refusal) → v ≡ number r → (number r ≡ 0 → ⊥) → ruled_as (Err (record { 0 = r; 1 = o })) ≡ verdict (reference_claims all all)
     unfolding refer_by
-    refer_no e = rw (ne_eqb v 0 e) (go (all_starts all (targets I)) refl (resolved I) refl refers)
+    refer_no r y e = ap (λ (k : ℕ). fail (fault k o)) (sym y) ∙ go (all_starts all (targets I)) refl (resolved I) refl refers
       where
         go : (a : Bool) → a ≡ all_starts all (targets I) → (b : Bool) → b ≡ resolved I → v ≡ cond a (cond b 0 13) 12 → fail (fault v o) ≡ verdict (reference_claims all all)
         go false ea b eb q = ap (λ (k : ℕ). fail (fault k o)) q ∙ reach_no P M all o n I _ z.claims inside size_site refl false ea refl
-        go true ea true eb q = absurd (e q)
+        go true ea true eb q = absurd (e (sym y ∙ q))
         go true ea false eb q = ap (λ (k : ℕ). fail (fault k o)) q ∙ name_no P M all o n I _ z.claims inside size_site refl true ea refl false eb refl
 
     module _ (e : v ≡ 0) where
@@ -226,3 +224,17 @@ module _ (P : Program) (M : Method) (all : List Line) (s : List ℕ) (q n : ℕ)
       table_next e =
           sym (verdict_yes (fault 12 (u2_at s q)) (range_ok M all (entry_at s q)) _ (sym ea ∙ not-false a ya)
           ∙ verdict_yes (fault 13 (u2_at s q)) (catch_ok P M (entry_at s q)) _ (sym eb ∙ not-false b e)) ∙ entry_first h
+
+-- ---- the table by the index of its entries
+module _ (P : Program) (M : Method) (all : List Line) (s : List ℕ) (n q : ℕ) where
+  pub table_start : verdict (table_claims P M all (handlers_from s (n - 0) (q + 8 * 0))) ≡ verdict (table_claims P M all (handlers_from s n q))
+  table_start =
+      let a : n - 0 ≡ n = omega arith in
+      let b : q + 8 * 0 ≡ q = omega arith in
+      rw (a, b)
+
+  pub table_turn : (k : ℕ) {R : Ruling Fault} → verdict (table_claims P M all (handlers_from s (n - k - 1) (q + 8 * k + 8))) ≡ R → verdict (table_claims P M all (handlers_from s (n - (k + 1)) (q + 8 * (k + 1)))) ≡ R
+  table_turn k h =
+      let a : n - k - 1 ≡ n - (k + 1) = omega arith in
+      let b : q + 8 * k + 8 ≡ q + 8 * (k + 1) = omega arith in
+      rw (← a, ← b) h

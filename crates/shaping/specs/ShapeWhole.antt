@@ -1,10 +1,8 @@
 -- Laws of phase C of a method whole: its parts in order. Assumes nothing.
-use Rattle.std.specs.Prelude.{ℕ, zero, suc, ◌+◌, ◌*◌, ◌%◌, ◌<◌, ◌≤◌, ◌≡◌, refl, Bool, true, false, cond, eqb, leb, length, get_or}
-use Rattle.std.proofs.Math.Path.{sym, ap}
-use Rattle.std.proofs.Common.{◌∙◌, arith, add-one, length-append, get_or-take, eq-eqb, ne_eqb, le-leb}
-use mathlib.Core.List.{List, [], ◌∷◌, ◌++◌}
+use Rattle.std.specs.Prelude.{ℕ, Ok, Err, OnOk, IsErrAnd, zero, suc, ◌+◌, ◌*◌, ◌%◌, ◌<◌, ◌≤◌, ◌≡◌, refl, Bool, true, false, cond, eqb, leb, length, get_or}
+use Rattle.std.proofs.Common.{◌∙◌, arith, add-one, length-append, get_or-take, ne_eqb, le-leb, sym, ap, List, [], ◌∷◌, ◌++◌}
 use Rattle.std.proofs.lemmas.Bool.{lt-leb, eqb-false}
-use Rattle.kit.specs.Claims.{Ruling, pass, fail, verdict, then, then_assoc, verdict_none, verdict_yes, verdict_no, verdict-append, pass_then, fail_then}
+use Rattle.kit.specs.Claims.{pass, fail, verdict, then, then_assoc, verdict_none, verdict_yes, verdict_no, verdict-append, pass_then, fail_then, handed, then_on, claims_on, claims_off}
 use Rattle.reader.specs.Verdicts.{Fault, fault}
 use Rattle.classfiles.specs.Descriptors.{Desc}
 use Rattle.classfiles.specs.Members.{none, once, twice, Body, Handler}
@@ -18,23 +16,25 @@ use Rattle.rules.specs.Opcodes.{body}
 use Rattle.rules.specs.Lines.{Line, lines}
 use Rattle.rules.specs.Shape.{is_once, not_twice, body_claims, form_claims, reference_claims, table_claims, shape_claims}
 use Rattle.rules.specs.Sites.{front, site_body, site_frames, program_at, method_at, Here}
-use Rattle.shaping.specs.Marks.{ruled_as, lines_at, Scanned, Ready}
+use Rattle.shaping.specs.Marks.{Ruled, spot_of, ruled_as, lines_at, Scanned, Ready}
 use Rattle.shaping.specs.ScanLaws.{ready-after, body_here}
 use Rattle.shaping.specs.Shaping.{table_of, Begun, end_claims, Shaped}
 use Rattle.rules.specs.declared.site.Site.{Site}
-use Rattle.rules.specs.declared.site.Ruled.{Ruled}
+use Rattle.texts.specs.declared.faults.Refusal.TheVariants.{CodeShape}
+use Rattle.texts.specs.declared.faults.Fault as code
 
--- ---- rulings one after the other
-module _ (r : Ruled) (a b : Ruling Fault) where
-  pub ruled_first : (r.number ≡ 0 → ⊥) → ruled_as r ≡ a → ruled_as r ≡ then a b
-  ruled_first n e =
-      let z : ruled_as r ≡ fail (fault r.number r.place) = rw (ne_eqb r.number 0 n) in
-      z ∙ sym (fail_then a b (fault r.number r.place) (sym e ∙ z))
+-- ---- what an answer without a refusal says
+OnOk-weaker : {A B : Type 0} (r : Ruled) → (A → B) → OnOk r A → OnOk r B
+OnOk-weaker (Ok u) f a = f a
+OnOk-weaker (Err e) f a = a
 
-  pub ruled_second : (q : Ruled) → r.number ≡ 0 → ruled_as r ≡ a → ruled_as q ≡ b → ruled_as q ≡ then a b
-  ruled_second q n e h =
-      let z : ruled_as r ≡ pass = rw (eq-eqb r.number 0 n) in
-      h ∙ sym (pass_then a b (sym e ∙ z))
+OnOk-always : {A : Type 0} (r : Ruled) → A → OnOk r A
+OnOk-always (Ok u) a = a
+OnOk-always (Err e) a = tt
+
+OnOk-never : (A : Type 0) (f : code.Fault) (r : Ruled) → IsErrAnd r (λ y. y ≡ f) → OnOk r A
+OnOk-never A f (Ok u) p = absurd p
+OnOk-never A f (Err e) p = tt
 
 -- ---- how many parameters
 length_tys : (ds : List Desc) → length (tys_of ds) ≡ length ds
@@ -124,15 +124,15 @@ module _ (s t : List ℕ) (x : Site) (h : Here s t x) where
       receiver false e = rw e
 
   -- ---- 10
-  refused_10 : (u : List ℕ) → u ≡ t → verdict (body_claims M) ≡ fail (fault 10 0) → Begun s t x (record { number = 10; place = 0 }) u
+  refused_10 : (u : List ℕ) → u ≡ t → verdict (body_claims M) ≡ fail (fault 10 0) → Begun s t x (Err (record { 0 = CodeShape; 1 = 0 })) u
   refused_10 u q e = record {
     is = sym (fail_then (verdict (body_claims M)) _ (fault 10 0) e);
-    ready = λ z. absurd (omega arith);
+    ready = tt;
     front = ap (λ (l : List ℕ). front l) q;
     long = ap length q;
   }
 
-  pub begun_codes : (u : List ℕ) → u ≡ t → (x.codes ≡ 1 → ⊥) → Begun s t x (record { number = 10; place = 0 }) u
+  pub begun_codes : (u : List ℕ) → u ≡ t → (x.codes ≡ 1 → ⊥) → Begun s t x (Err (record { 0 = CodeShape; 1 = 0 })) u
   begun_codes u q n = refused_10 u q (body_first M (ap is_once h.sited.body ∙ once_not x.codes (site_body s x) n))
 
   module _ (c : x.codes ≡ 1) where
@@ -155,20 +155,20 @@ module _ (s t : List ℕ) (x : Site) (h : Here s t x) where
     unfolding site_body
     table_is = ap (λ (b : Body). b.table) body_is
 
-    pub begun_tables : (u : List ℕ) → u ≡ t → 1 < x.tables → Begun s t x (record { number = 10; place = 0 }) u
+    pub begun_tables : (u : List ℕ) → u ≡ t → 1 < x.tables → Begun s t x (Err (record { 0 = CodeShape; 1 = 0 })) u
     begun_tables u q l = refused_10 u q (body-second M one_code (tables_is ∙ twice_not x.tables (site_frames s x) l))
 
     module _ (l : x.tables ≤ 1) (n : ℕ) (en : n ≡ length (params_in t (64 * x.class + x.method)) + cond x.fixed 0 1) where
       few_tables : not_twice (body M).frames ≡ true
       few_tables = tables_is ∙ not-twice x.tables (site_frames s x) l
 
-      pub begun_params : (u : List ℕ) → u ≡ t → x.locals < n → Begun s t x (record { number = 10; place = 0 }) u
+      pub begun_params : (u : List ℕ) → u ≡ t → x.locals < n → Begun s t x (Err (record { 0 = CodeShape; 1 = 0 })) u
       begun_params u q k = refused_10 u q (body_third M one_code few_tables (omega (arith, locals_is, slots_here n en)))
 
       pub begun_marks : (u : List ℕ) (r : Ruled) → n ≤ x.locals → 262144 ≤ length t → Scanned s t x r u → Begun s t x r u
       begun_marks u r k g z = record {
         is = z.is ∙ sym (pass_then (verdict (body_claims M)) (verdict (form_claims M all)) (body-all M one_code few_tables (omega (arith, locals_is, slots_here n en))));
-        ready = λ e. ready-after s t u x h c g z.front z.long (z.marks e);
+        ready = OnOk-weaker r (ready-after s t u x h c g z.front z.long) z.marks;
         front = z.front;
         long = z.long;
       }
@@ -192,37 +192,31 @@ module _ (s t : List ℕ) (x : Site) (h : Here s t x) where
   ends_same u e =
       ap (λ (f : List ℕ). reference_claims (lines (program_at s f x) (method_at s f x)) (lines (program_at s f x) (method_at s f x)) ++ table_claims (program_at s f x) (method_at s f x) (lines (program_at s f x) (method_at s f x)) (table_of s x)) e
 
-  module _ (u : List ℕ) (r : Ruled) (z : Begun s t x r u) where
-    pub shaped_first : (r.number ≡ 0 → ⊥) → Shaped s t x r u
-    shaped_first n =
-        let e : ruled_as r ≡ fail (fault r.number r.place) = rw (ne_eqb r.number 0 n) in
-        record {
-          is = e ∙ sym (whole_fails (fault r.number r.place) (sym z.is ∙ e));
-          ready = z.ready;
-          front = z.front;
-          long = z.long;
-        }
+  pub shaped_first : (u : List ℕ) (r : Ruled) (f : code.Fault) → Begun s t x (Err f) u → IsErrAnd r (λ y. y ≡ f) → Shaped s t x r u
+  shaped_first u r f z p = record {
+    is = handed spot_of r f p ∙ sym (whole_fails (spot_of f) (sym z.is));
+    ready = OnOk-never (Ready s u x) f r p;
+    front = z.front;
+    long = z.long;
+  }
 
-    pub shaped_second : (q : Ruled) → r.number ≡ 0 → ruled_as q ≡ verdict (end_claims s u x) → Shaped s t x q u
-    shaped_second q n e =
-        let y : Ready s u x = z.ready n in
-        record {
-          is =
-              ruled_second r (then (verdict (body_claims M)) (verdict (form_claims M all))) (verdict (end_claims s t x)) q n z.is (e ∙ ap verdict (ends_same u z.front))
-              ∙ sym (whole_is y.one);
-          ready = λ k. y;
-          front = z.front;
-          long = z.long;
-        }
+  pub shaped_second : (u : List ℕ) (q : Ruled) → Begun s t x (Ok tt) u → ruled_as q ≡ verdict (end_claims s u x) → Shaped s t x q u
+  shaped_second u q z e = record {
+    is =
+        then_on (ruled_as q) _ (verdict (end_claims s t x)) z.is (e ∙ ap verdict (ends_same u z.front))
+        ∙ sym (whole_is z.ready.one);
+    ready = OnOk-always q z.ready;
+    front = z.front;
+    long = z.long;
+  }
 
 -- what follows the marks, in order
-module _ (s t : List ℕ) (x : Site) (r : Ruled) (e : ruled_as r ≡ verdict (reference_claims (lines_at s t x) (lines_at s t x))) where
-  pub ended_first : (r.number ≡ 0 → ⊥) → ruled_as r ≡ verdict (end_claims s t x)
+module _ (s t : List ℕ) (x : Site) (r : Ruled) where
+  pub ended_first : (f : code.Fault) → fail (spot_of f) ≡ verdict (reference_claims (lines_at s t x) (lines_at s t x)) → IsErrAnd r (λ y. y ≡ f) → ruled_as r ≡ verdict (end_claims s t x)
   unfolding end_claims
-  ended_first n = ruled_first r (verdict (reference_claims (lines_at s t x) (lines_at s t x))) _ n e ∙ sym (verdict-append (reference_claims (lines_at s t x) (lines_at s t x)) _)
+  ended_first f h p = claims_off spot_of r f p _ _ h
 
-  pub ended-second : (q : Ruled) → r.number ≡ 0
-      → ruled_as q ≡ verdict (table_claims (program_at s (front t) x) (method_at s (front t) x) (lines_at s t x) (table_of s x)) → ruled_as q ≡ verdict (end_claims s t x)
+  pub ended-second : pass ≡ verdict (reference_claims (lines_at s t x) (lines_at s t x))
+      → ruled_as r ≡ verdict (table_claims (program_at s (front t) x) (method_at s (front t) x) (lines_at s t x) (table_of s x)) → ruled_as r ≡ verdict (end_claims s t x)
   unfolding end_claims
-  ended-second q n h =
-      ruled_second r (verdict (reference_claims (lines_at s t x) (lines_at s t x))) _ q n e h ∙ sym (verdict-append (reference_claims (lines_at s t x) (lines_at s t x)) _)
+  ended-second h p = claims_on _ _ _ h p

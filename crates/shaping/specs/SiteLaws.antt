@@ -1,9 +1,7 @@
 -- Laws of sites: the method's body, and its instructions as they are decoded from any scratch with the same front. Assumes nothing.
-use Prim.Native.Nat.{ℕ, ◌+◌, ◌<◌, ◌≤◌}
 use Rattle.std.specs.Prelude.{◌≡◌, refl, cond, ◌⊎◌, ltb, get_or}
-use Rattle.std.proofs.Common.{sym, subst, ◌∙◌, inl, inr, arith, lt-ltb, le-ltb}
-use Rattle.std.proofs.Math.Path.{ap, fun_ext}
-use mathlib.Core.List.{List}
+use Rattle.std.proofs.Common.{sym, subst, ◌∙◌, inl, inr, arith, lt-ltb, le-ltb, ℕ, ◌+◌, ◌<◌, ◌≤◌, ap, List}
+use Rattle.std.proofs.Math.Path.{fun_ext}
 use Rattle.kit.specs.Pick.{side}
 use Rattle.kit.specs.Words.{word, word-take}
 use Rattle.classfiles.specs.Members.{Body}
@@ -71,7 +69,7 @@ module _ (s t u : List ℕ) (c : ℕ) (e : front u ≡ front t) where
         ∙ ap (λ (g : ℕ → Resolved). made P g (get_or bytes o 0) (get_or bytes (o + 1) 0) (get_or bytes (o + 2) 0) o) names-front;
   }
 
-  pub says-front : (g : Instr → ℕ) (bytes : List ℕ) (o v : ℕ) → Says g s u c bytes o v → Says g s (front t) c bytes o v
+  pub says-front : {A : Type 0} (g : Instr → A) (bytes : List ℕ) (o : ℕ) (v : A) → Says g s u c bytes o v → Says g s (front t) c bytes o v
   says-front g bytes o v d = record {
     is = λ P f.
         d.is P (λ i. subst (Flagged P) (sym (words_front i)) (f i))
@@ -79,7 +77,7 @@ module _ (s t u : List ℕ) (c : ℕ) (e : front u ≡ front t) where
   }
 
 -- what is said of it, from a scratch with the same front
-pub site_says : (g : Instr → ℕ) (s t u : List ℕ) (x : Site) → Here s t x → x.codes ≡ 1 → front u ≡ front t → (o v : ℕ)
+pub site_says : {A : Type 0} (g : Instr → A) (s t u : List ℕ) (x : Site) → Here s t x → x.codes ≡ 1 → front u ≡ front t → (o : ℕ) (v : A)
     → Says g s u x.class (site_code s x) o v → v ≡ g (instruction (program_at s (front t) x) (method_at s (front t) x) o)
 site_says g s t u x h e f o v d =
     (says-front s t u x.class f g (site_code s x) o v d).is (program_at s (front t) x) h.sited.flags

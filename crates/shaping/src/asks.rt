@@ -27,7 +27,7 @@ fn packed(k: usize) -> u64
     }
 }
 
-// 0 nothing, 1 to 4 so many locals, 5 the local of its operand, 6 a target, 7 its own tests; a name: 9 of a
+// No enum: the table gives four bits, and a number of locals is one of them. 0 nothing, 1 to 4 so many locals, 5 the local of its operand, 6 a target, 7 its own tests; a name: 9 of a
 // number, 10 a type, 11 a field, 12 a method of an object, 13 a static one, 14 a constructor.
 pub fn kind(op: usize) -> u64
     requires { op < 256 }

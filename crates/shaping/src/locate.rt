@@ -5,12 +5,12 @@ ghost use Rattle.reader.specs.MemberRows.{block_at, row_count};
 ghost use Rattle.rules.specs.Sites.{KnowsInit};
 ghost use Rattle.shaping.specs.Located.{Prepared, PartsOf, Located};
 
-use classfiles::pool::cut;
+use classfiles::pool::cut_span;
 use reader::{access, overriding, signature};
 use rules::site::Site;
 use texts::{items, names};
 
-// Of a method with one Code; all zero otherwise.
+// Of a method with one Code; all zero otherwise. No Option: a site has those zeros too.
 #[derive(Clone, Copy)]
 pub struct Parts {
     pub stack: usize,
@@ -44,12 +44,12 @@ fn parts_of(s: &[u8], t: &[u8], c: usize, m: usize) -> Parts
     }
     let q = access::method_word(t, c, m, 2);
     let size = items::u4_at(s, q + 4);
-    let code = cut(s, q + 8, size);
+    let code = cut_span(s, q + 8, size);
     let table = q + 8 + size;
     let tables = access::method_word(t, c, m, 3);
     let a = access::method_word(t, c, m, 4);
     let k = access::method_word(t, c, m, 5);
-    let frames = cut(s, a, k);
+    let frames = cut_span(s, a, k);
     Parts {
         stack: items::u2_at(s, q),
         locals: items::u2_at(s, q + 2),
@@ -103,9 +103,6 @@ pub fn site(s: &[u8], t: &[u8], n: usize, c: usize, m: usize) -> Site
     requires { Prepared s.now n t.now × (c < n) × (m < row_count (block_at t.now c) true) × (16 * block_size ≤ length t.now) }
     ensures { Located s.now n c m result t.now × KnowsInit s.now t.now result }
 {
-    let p = signature::member_name(s, t, c, true, m);
-    let f = p.start;
-    let g = p.end;
-    let constructor = names::is_init(&s[f..g]);
+    let constructor = names::is_init(signature::member_name(s, t, c, true, m));
     site_as(s, t, n, c, m, constructor)
 }

@@ -9,8 +9,9 @@ ghost use Rattle.shaping.specs.Marks.{lines_at, Ready, Cleared, Scanned, PassesS
 
 use crate::asks;
 use rules::instruction::{Instr, Local};
-use rules::site::{Ruled, Site};
+use rules::site::Site;
 use rules::{decode, opcodes};
+use texts::faults::{Fault, Refusal};
 
 fn local_ok(i: Local, n: usize) -> bool
     ensures { result ≡ form_ok n (local_of i) }
@@ -65,19 +66,19 @@ fn clear_marks(t: &mut [u8], n: usize)
     kit::clear(&mut t[256640..256640 + n]);
 }
 
-// The mark of the instruction at o, 0 where its form is wrong; n locals.
-fn decoded_mark(s: &[u8], t: &[u8], c: usize, code: &[u8], o: usize, n: usize) -> u8
+// The mark of the instruction at o, none where its form is wrong; n locals.
+fn decoded_mark(s: &[u8], t: &[u8], c: usize, code: &[u8], o: usize, n: usize) -> Option<u8>
     ensures { Says (mark_by n) s.now t.now c code.now o result }
 {
     let i = decode::instruction(s, t, c, code, o);
     if form_ok(i, n) {
-        return mark_of(i);
+        return Some(mark_of(i));
     }
-    0
+    None
 }
 
 // The same, by its opcode where that tells.
-fn mark_at(s: &[u8], t: &[u8], c: usize, code: &[u8], o: usize, n: usize) -> u8
+fn mark_at(s: &[u8], t: &[u8], c: usize, code: &[u8], o: usize, n: usize) -> Option<u8>
     requires { o < length code.now }
     ensures { Says (mark_by n) s.now t.now c code.now o result }
 {
@@ -87,52 +88,38 @@ fn mark_at(s: &[u8], t: &[u8], c: usize, code: &[u8], o: usize, n: usize) -> u8
         return decoded_mark(s, t, c, code, o, n);
     }
     if asks::needs(k, kit::byte(code, o + 1)) <= n {
-        return 1;
+        return Some(1);
     }
-    0
+    None
 }
 
 // The instructions in order; the marks are clear before.
-fn scan(s: &[u8], t: &mut [u8], x: Site) -> Ruled
+fn scan(s: &[u8], t: &mut [u8], x: Site) -> Result<(), Fault>
     requires { Here s.now t.old x × (x.codes ≡ 1) × (262144 ≤ length t.old) × Cleared (x.end - x.start) t.old t.old }
     ensures { Scanned s.now t.old x result t.new }
 {
-    let from = x.start;
-    let to = x.end;
-    let code = &s[from..to];
+    let code = &s[x.start..x.end];
+    // No `for`: an instruction's size is the step.
     let mut o = 0;
     while o < code.len() {
         let n = opcodes::size_at(code, o);
         if n == 0 {
-            return Ruled {
-                number: 11,
-                place: o,
-            };
+            return Err(Fault(Refusal::Opcode, o));
         }
         if code.len() - o < n {
-            return Ruled {
-                number: 11,
-                place: o,
-            };
+            return Err(Fault(Refusal::Opcode, o));
         }
-        let m = mark_at(s, t, x.class, code, o, x.locals);
-        if m == 0 {
-            return Ruled {
-                number: 11,
-                place: o,
-            };
-        }
+        let Some(m) = mark_at(s, t, x.class, code, o, x.locals) else {
+            return Err(Fault(Refusal::Opcode, o));
+        };
         t[256640 + o] = m;
         o += n;
     }
-    Ruled {
-        number: 0,
-        place: 0,
-    }
+    Ok(())
 }
 
 // All 11 of a method, and its marks.
-pub fn mark(s: &[u8], t: &mut [u8], x: Site) -> Ruled
+pub fn mark(s: &[u8], t: &mut [u8], x: Site) -> Result<(), Fault>
     requires { Here s.now t.old x × (x.codes ≡ 1) × (262144 ≤ length t.old) }
     ensures { Scanned s.now t.old x result t.new }
 {
@@ -155,9 +142,8 @@ fn fill(s: &[u8], t: &mut [u8], x: Site)
     requires { Here s.now t.old x × (x.codes ≡ 1) × (262144 ≤ length t.old) × Cleared (x.end - x.start) t.old t.old × PassesShape s.now t.old x }
     ensures { Restored s.now t.old x t.new }
 {
-    let from = x.start;
-    let to = x.end;
-    let code = &s[from..to];
+    let code = &s[x.start..x.end];
+    // No `for`: an instruction's size is the step.
     let mut o = 0;
     while o < x.end - x.start {
         t[256640 + o] = opcode_mark(kit::byte(code, o));

@@ -1,5 +1,5 @@
 // What code names, found once: a word for each pool entry of each class.
-ghost use Rattle.std.specs.Prelude.{◌≡◌, true, false, ◌+◌, ◌*◌, ◌^◌, ◌<◌, ◌≤◌, length, take, drop};
+ghost use Rattle.std.specs.Prelude.{◌≡◌, IfSome, true, false, ◌+◌, ◌*◌, ◌^◌, ◌<◌, ◌≤◌, length, take, drop};
 ghost use Rattle.kit.specs.Words.{word};
 ghost use Rattle.texts.specs.Reading.{u2_at};
 ghost use Rattle.classfiles.specs.Pool.{class_at, entry};
@@ -15,46 +15,30 @@ ghost use Rattle.rules.specs.Resolve.{class_entry, with_signature, method_found,
 ghost use Rattle.rules.specs.ResolvedWords.{word_of};
 ghost use Rattle.rules.specs.Handlers.{class_in};
 ghost use Rattle.shaping.specs.Located.{Prepared};
-ghost use Rattle.shaping.specs.Resolving.{type_as, member_in, referred, type_word, field_word, method_word, flag_of, Named, Classed, Fills, Around, Blanked, Filled};
+ghost use Rattle.shaping.specs.Resolving.{type_as, member_in, referred, type_word, field_word, method_word, Named, Classed, Fills, Around, Blanked, Filled};
 
 use classfiles::pool::Entry;
 use reader::lookup::Hit;
 use reader::{access, lookup, overriding, types as codes};
 use rules::decode;
-use texts::items::Got;
 use texts::{items, names};
 
 // The type that the Class of name i in class c's pool names: its code, where it is known.
-fn class_code(s: &[u8], t: &[u8], n: usize, c: usize, i: usize) -> Got
+fn class_code(s: &[u8], t: &[u8], n: usize, c: usize, i: usize) -> Option<usize>
     requires { (n ≤ 16) × (c < n) × (parents_end ≤ length t.now) }
-    ensures { (type_as result ≡ class_entry (program_of (files_in s.now n t.now)) (pool_of s.now (block_at t.now c)) (class_at i)) × (result.val < 256) }
+    ensures { (type_as result ≡ class_entry (program_of (files_in s.now n t.now)) (pool_of s.now (block_at t.now c)) (class_at i)) × IfSome result (λ k. k < 256) }
 {
-    let p = access::text_in(s, t, c, i);
-    let f = p.start;
-    let g = p.end;
-    let d = codes::class_type(s, &t[0..102912], n, &s[f..g]);
-    if !d.ok {
-        return Got {
-            ok: false,
-            val: 0,
-            at: 0,
-        };
-    }
+    let x = access::text_in(s, t, c, i);
+    let Ok(d) = codes::class_type(s, &t[0..102912], n, x) else {
+        return None;
+    };
     if d.val == 248 {
-        return Got {
-            ok: false,
-            val: 0,
-            at: 0,
-        };
+        return None;
     }
     if codes::is_known(n, d.val) {
-        return d;
+        return Some(d.val);
     }
-    Got {
-        ok: false,
-        val: 0,
-        at: 0,
-    }
+    None
 }
 
 fn field_bits(code: usize, named: usize, owner: usize, slot: usize) -> u32
@@ -69,23 +53,13 @@ fn field_word(s: &[u8], t: &[u8], n: usize, named: usize, x: &[u8], y: &[u8]) ->
     requires { (n ≤ 16) × (named < 32) × (parents_end ≤ length t.now) × Parents s.now n t.now × Limited n t.now × Printed s.now n t.now }
     ensures { Named s.now (program_of (files_in s.now n t.now)) (field_in (program_of (files_in s.now n t.now)) (signature x.now y.now) named) result }
 {
-    let r = lookup::seek(s, t, n, named, false, x, y);
-    if !r.found {
+    let Some(r) = lookup::seek(s, t, n, named, false, x, y) else {
         return 0;
-    }
+    };
     let code = access::field_code(s, t, n, r.class - 11, r.index);
     let up = lookup::above(s, t, n, r.class);
     let size = access::layout_size(s, t, n, up);
     field_bits(code, named, r.class, size + r.index)
-}
-
-fn flag(b: bool) -> usize
-    ensures { (result ≡ flag_of b) × (result ≤ 1) }
-{
-    if b {
-        return 1;
-    }
-    0
 }
 
 fn method_bits(named: usize, owner: usize, index: usize, fixed: bool, init: bool) -> u32
@@ -95,20 +69,20 @@ fn method_bits(named: usize, owner: usize, index: usize, fixed: bool, init: bool
     (4 + 8 * named
         + 256 * owner
         + 8192 * index
-        + 524288 * flag(fixed)
-        + 1048576 * flag(init)) as u32
+        + 524288 * usize::from(fixed)
+        + 1048576 * usize::from(init)) as u32
 }
 
-// A method that was found, a constructor or not.
-fn hit_word(s: &[u8], t: &[u8], n: usize, named: usize, r: Hit, init: bool) -> u32
-    requires { (n ≤ 16) × (named < 32) × (parents_end ≤ length t.now) × (r.found ≡ true → (r.class < 32) × (r.index < 64) × (is_constructor (method (program_of (files_in s.now n t.now)) r.class r.index) ≡ init)) }
+// A method, if one was found, a constructor or not.
+fn hit_word(s: &[u8], t: &[u8], n: usize, named: usize, r: Option<Hit>, init: bool) -> u32
+    requires { (n ≤ 16) × (named < 32) × (parents_end ≤ length t.now) × IfSome r (λ h. (h.class < 32) × (h.index < 64) × (is_constructor (method (program_of (files_in s.now n t.now)) h.class h.index) ≡ init)) }
     ensures { Named s.now (program_of (files_in s.now n t.now)) (method_found named (hit_of r)) result }
 {
-    if !r.found {
+    let Some(h) = r else {
         return 0;
-    }
-    let fixed = overriding::is_static(s, t, n, r.class, r.index);
-    method_bits(named, r.class, r.index, fixed, init)
+    };
+    let fixed = overriding::is_static(s, t, n, h.class, h.index);
+    method_bits(named, h.class, h.index, fixed, init)
 }
 
 // The method of name x and descriptor y, from class `named` upward; `<init>` in the class itself.
@@ -129,30 +103,18 @@ fn member_word(s: &[u8], t: &[u8], n: usize, c: usize, named: usize, j: usize, m
     requires { (n ≤ 16) × (c < n) × (named < 32) × (parents_end ≤ length t.now) × Parents s.now n t.now × Limited n t.now × Printed s.now n t.now }
     ensures { Named s.now (program_of (files_in s.now n t.now)) (with_signature (pool_of s.now (block_at t.now c)) (entry (pool_of s.now (block_at t.now c)) j) (member_in (program_of (files_in s.now n t.now)) method named)) result }
 {
-    let e = access::entry_in(s, t, c, j);
-    match e {
-        Entry::Absent => 0,
-        Entry::Utf8(_, _) => 0,
-        Entry::Integer(_) => 0,
-        Entry::Class(_) => 0,
-        Entry::Field(_, _) => 0,
-        Entry::Method(_, _) => 0,
-        Entry::NameAndType(name, descriptor) => {
-            let p = access::text_in(s, t, c, name);
-            let f = p.start;
-            let g = p.end;
-            let q = access::text_in(s, t, c, descriptor);
-            let h = q.start;
-            let k = q.end;
-            if method {
-                return method_word(s, t, n, named, &s[f..g], &s[h..k]);
-            }
-            field_word(s, t, n, named, &s[f..g], &s[h..k])
-        }
+    let Entry::NameAndType(name, descriptor) = access::entry_in(s, t, c, j) else {
+        return 0;
+    };
+    let x = access::text_in(s, t, c, name);
+    let y = access::text_in(s, t, c, descriptor);
+    if method {
+        return method_word(s, t, n, named, x, y);
     }
+    field_word(s, t, n, named, x, y)
 }
 
-// The class that entry j of class c's pool names, by its word; 31 where there is none.
+// The class that entry j of class c's pool names, by its word; 31 where there is none. No Option: a word can give 31 too, so that the test below 31 stays.
 fn class_named(t: &[u8], c: usize, j: usize) -> usize
     ensures { (result ≡ class_in 31 (word_of t.now c j)) × (result < 32) }
 {
@@ -191,14 +153,14 @@ fn referred_word(s: &[u8], t: &[u8], n: usize, c: usize, i: usize) -> u32
     0
 }
 
-fn type_bits(d: Got) -> u32
-    requires { d.val < 256 }
+fn type_bits(d: Option<usize>) -> u32
+    requires { IfSome d (λ k. k < 256) }
     ensures { result ≡ type_word d }
 {
-    if d.ok {
-        return (2 + 8 * d.val) as u32;
+    match d {
+        Some(k) => (2 + 8 * k) as u32,
+        None => 0,
     }
-    0
 }
 
 // The first pass at entry i of class c's pool: numbers and types.
@@ -245,10 +207,8 @@ fn class_entries(s: &[u8], t: &mut [u8], n: usize, c: usize, members: bool)
     ensures { Around t.old t.new × Filled s.now n members (1024 * (c + 1)) t.new }
 {
     let e = kit::word(t, 1608 * c + 1025) as usize;
-    let mut i = 1;
-    while i < e {
+    for i in 1..e {
         fill(s, t, n, c, i, members);
-        i += 1;
     }
 }
 
@@ -256,10 +216,8 @@ fn entries(s: &[u8], t: &mut [u8], n: usize, members: bool)
     requires { (length s.now ≤ 65536) × (n ≤ 16) × (168576 ≤ length t.old) × Parents s.now n t.old × Limited n t.old × Printed s.now n t.old × Filled s.now n members 0 t.old }
     ensures { Around t.old t.new × Filled s.now n members (1024 * n) t.new }
 {
-    let mut c = 0;
-    while c < n {
+    for c in 0..n {
         class_entries(s, t, n, c, members);
-        c += 1;
     }
 }
 

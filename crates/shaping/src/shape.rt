@@ -8,6 +8,7 @@ ghost use Rattle.rules.specs.InstructionWords.{branch_of, instr_of};
 ghost use Rattle.rules.specs.Shape.{all_starts, reference_claims, range_ok, catch_ok, table_claims};
 ghost use Rattle.rules.specs.Sites.{front, program_at, method_at, Here};
 ghost use Rattle.shaping.specs.Asks.{Says, refer_by, name_fault};
+ghost use Rattle.texts.specs.Faults.{refused};
 ghost use Rattle.shaping.specs.Marks.{ruled_as, lines_at, Ready};
 ghost use Rattle.shaping.specs.Shaping.{table_of, Begun, end_claims, Shaped};
 ghost use Rattle.rules.specs.Handlers.{entry_at, catch_in};
@@ -16,9 +17,10 @@ use crate::{asks, marks};
 use reader::types as methods;
 use rules::decode::Bytes;
 use rules::instruction::{Branch, Instr};
-use rules::site::{Ruled, Site};
+use rules::site::Site;
 use rules::types::{self, Kin};
 use rules::{decode, opcodes};
+use texts::faults::{Fault, Refusal};
 use texts::items;
 
 fn branch_leads(s: &[u8], t: &[u8], x: Site, i: Branch) -> bool
@@ -69,19 +71,19 @@ fn is_resolved(i: Instr) -> bool
     }
 }
 
-// 12 or 13 where the instruction at o has it, 12 before 13, or 0.
-fn decoded_fault(s: &[u8], t: &[u8], x: Site, code: &[u8], o: usize) -> u32
+// 12 or 13 where the instruction at o has it, 12 before 13.
+fn decoded_fault(s: &[u8], t: &[u8], x: Site, code: &[u8], o: usize) -> Option<Refusal>
     requires { Ready s.now t.now x }
-    ensures { Says (refer_by (lines_at s.now t.now x)) s.now t.now x.class code.now o result }
+    ensures { Says (refer_by (lines_at s.now t.now x)) s.now t.now x.class code.now o (refused result) }
 {
     let i = decode::instruction(s, t, x.class, code, o);
     if !leads(s, t, x, i) {
-        return 12;
+        return Some(Refusal::Target);
     }
     if is_resolved(i) {
-        return 0;
+        return None;
     }
-    13
+    Some(Refusal::Named)
 }
 
 // Where the branch at o leads.
@@ -93,42 +95,42 @@ fn target_at(code: &[u8], o: usize) -> u16
     let second = kit::byte(code, o + 2) as u8;
     decode::target(Bytes {
         op: 0,
-        first: first,
-        second: second,
+        first,
+        second,
         at: o,
     })
 }
 
-// 13 where the instruction of kind k at o names what is not of that kind, or 0.
-fn name_fault(t: &[u8], c: usize, code: &[u8], o: usize, k: u64) -> u32
+// 13 where the instruction of kind k at o names what is not of that kind.
+fn name_fault(t: &[u8], c: usize, code: &[u8], o: usize, k: u64) -> Option<Refusal>
     requires { o < length code.now }
-    ensures { result ≡ name_fault t.now c code.now o k }
+    ensures { refused result ≡ name_fault t.now c code.now o k }
 {
     let a = kit::byte(code, o + 1);
     let b = kit::byte(code, o + 2);
     let w = decode::named_word(t, c, asks::entry(k, a, b));
     if asks::sort(w) == k {
-        return 0;
+        return None;
     }
-    13
+    Some(Refusal::Named)
 }
 
 // The same as decoded_fault, by the opcode where that tells.
-fn fault_at(s: &[u8], t: &[u8], x: Site, code: &[u8], o: usize) -> u32
+fn fault_at(s: &[u8], t: &[u8], x: Site, code: &[u8], o: usize) -> Option<Refusal>
     requires { Ready s.now t.now x × (o < length code.now) }
-    ensures { Says (refer_by (lines_at s.now t.now x)) s.now t.now x.class code.now o result }
+    ensures { Says (refer_by (lines_at s.now t.now x)) s.now t.now x.class code.now o (refused result) }
 {
     let op = kit::byte(code, o);
     let k = asks::kind(op);
     if k < 6 {
-        return 0;
+        return None;
     }
     if k == 6 {
         let l = target_at(code, o);
         if marks::is_start(s, t, x, l as usize) {
-            return 0;
+            return None;
         }
-        return 12;
+        return Some(Refusal::Target);
     }
     if k == 7 {
         return decoded_fault(s, t, x, code, o);
@@ -137,38 +139,27 @@ fn fault_at(s: &[u8], t: &[u8], x: Site, code: &[u8], o: usize) -> u32
 }
 
 // 12 and 13 of the instructions in order.
-fn references(s: &[u8], t: &[u8], x: Site) -> Ruled
+fn references(s: &[u8], t: &[u8], x: Site) -> Result<(), Fault>
     requires { Ready s.now t.now x }
     ensures { ruled_as result ≡ verdict (reference_claims (lines_at s.now t.now x) (lines_at s.now t.now x)) }
 {
-    let from = x.start;
-    let to = x.end;
-    let code = &s[from..to];
+    let code = &s[x.start..x.end];
+    // No `for`: an instruction's size is the step.
     let mut o = 0;
     while o < code.len() {
         let n = opcodes::size_at(code, o);
-        let r = fault_at(s, t, x, code, o);
-        if r != 0 {
-            return Ruled {
-                number: r,
-                place: o,
-            };
+        if let Some(refusal) = fault_at(s, t, x, code, o) {
+            return Err(Fault(refusal, o));
         }
         if n == 0 {
-            return Ruled {
-                number: 0,
-                place: 0,
-            };
+            return Ok(());
         }
         o += n;
     }
-    Ruled {
-        number: 0,
-        place: 0,
-    }
+    Ok(())
 }
 
-// The class that a handler with this catch_type catches; as many as there are where it names none.
+// The class that a handler with this catch_type catches; as many as there are where it names none. No Option: the number is tested in any case.
 fn catch_class(t: &[u8], x: Site, c: usize) -> u32
     requires { x.classes ≤ 16 }
     ensures { result ≡ catch_in t.now x.class (first_class + x.classes) c }
@@ -226,32 +217,20 @@ fn catch_ok(s: &[u8], t: &[u8], x: Site, q: usize) -> bool
 }
 
 // 12 and 13 of the exception table.
-fn handlers(s: &[u8], t: &[u8], x: Site) -> Ruled
+fn handlers(s: &[u8], t: &[u8], x: Site) -> Result<(), Fault>
     requires { Ready s.now t.now x }
     ensures { ruled_as result ≡ verdict (table_claims (program_at s.now (front t.now) x) (method_at s.now (front t.now) x) (lines_at s.now t.now x) (table_of s.now x)) }
 {
-    let mut q = x.table;
-    let mut left = x.entries;
-    while 0 < left {
+    for k in 0..x.entries {
+        let q = x.table + 8 * k;
         if !range_ok(s, t, x, q) {
-            return Ruled {
-                number: 12,
-                place: items::u2_at(s, q),
-            };
+            return Err(Fault(Refusal::Target, items::u2_at(s, q)));
         }
         if !catch_ok(s, t, x, q) {
-            return Ruled {
-                number: 13,
-                place: items::u2_at(s, q),
-            };
+            return Err(Fault(Refusal::Named, items::u2_at(s, q)));
         }
-        q += 8;
-        left -= 1;
     }
-    Ruled {
-        number: 0,
-        place: 0,
-    }
+    Ok(())
 }
 
 // How many locals the parameters take, with the receiver.
@@ -267,51 +246,36 @@ fn parameters(t: &[u8], x: Site) -> usize
 }
 
 // 10, then 11.
-fn begun(s: &[u8], t: &mut [u8], x: Site) -> Ruled
+fn begun(s: &[u8], t: &mut [u8], x: Site) -> Result<(), Fault>
     requires { Here s.now t.old x × (262144 ≤ length t.old) }
     ensures { Begun s.now t.old x result t.new }
 {
     if x.codes != 1 {
-        return Ruled {
-            number: 10,
-            place: 0,
-        };
+        return Err(Fault(Refusal::CodeShape, 0));
     }
     if 1 < x.tables {
-        return Ruled {
-            number: 10,
-            place: 0,
-        };
+        return Err(Fault(Refusal::CodeShape, 0));
     }
     if x.locals < parameters(t, x) {
-        return Ruled {
-            number: 10,
-            place: 0,
-        };
+        return Err(Fault(Refusal::CodeShape, 0));
     }
     marks::mark(s, t, x)
 }
 
 // What follows the marks.
-fn ended(s: &[u8], t: &[u8], x: Site) -> Ruled
+fn ended(s: &[u8], t: &[u8], x: Site) -> Result<(), Fault>
     requires { Ready s.now t.now x }
     ensures { ruled_as result ≡ verdict (end_claims s.now t.now x) }
 {
-    let r = references(s, t, x);
-    if r.number != 0 {
-        return r;
-    }
+    references(s, t, x)?;
     handlers(s, t, x)
 }
 
 // Phase C of a method; where it passes, the scratch has the method's marks.
-pub fn shape_of(s: &[u8], t: &mut [u8], x: Site) -> Ruled
+pub fn shape_of(s: &[u8], t: &mut [u8], x: Site) -> Result<(), Fault>
     requires { Here s.now t.old x × (262144 ≤ length t.old) }
     ensures { Shaped s.now t.old x result t.new }
 {
-    let r = begun(s, t, x);
-    if r.number != 0 {
-        return r;
-    }
+    begun(s, t, x)?;
     ended(s, t, x)
 }

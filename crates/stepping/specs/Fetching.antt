@@ -1,11 +1,7 @@
 -- The instruction that the running call stands at, and a step by it. Assumes nothing.
-use Rattle.std.specs.Prelude.{ℕ, ◌+◌, ◌-◌, ◌<◌, ◌≤◌, ◌≡◌, Bool, false, cond, not, length}
-use Rattle.std.proofs.Math.Path.{refl, ap}
-use Rattle.std.proofs.Common.{sym, subst, ◌∙◌, arith}
-use Rattle.std.proofs.Math.Bool.{true}
-use mathlib.Core.List.{List}
-use borrow.Author.Tests.{lt-ltb, le-ltb, not-true}
-use Rattle.std.proofs.Math.Dec.{ltb}
+use Rattle.std.specs.Prelude.{Err, ℕ, ◌+◌, ◌-◌, ◌<◌, ◌≤◌, ◌≡◌, Bool, false, cond, not, length}
+use Rattle.std.proofs.Common.{sym, subst, ◌∙◌, arith, refl, ap, true, List, lt-ltb, le-ltb, ltb}
+use borrow.Author.Tests.{not-true}
 use Rattle.kit.specs.Bools.{not_so}
 use Rattle.kit.specs.Lists.{length_part}
 use Rattle.classfiles.specs.Limits.{max_heap}
@@ -42,10 +38,11 @@ use Rattle.running.specs.Sending.{CallReady}
 use Rattle.running.specs.CallSites.{static_at, init-at, virtual_at}
 use Rattle.stepping.specs.Callable.{Callable}
 use Rattle.stepping.specs.JumpSites.{LowOf, low_at}
-use Rattle.stepping.specs.declared.moves.Moved.{Moved}
+use Rattle.running.specs.Throwing.{Move, ending}
+use Rattle.running.specs.declared.ends.End.TheVariants.{Stuck as NoWay}
 use Rattle.stepping.specs.Stepping.{Stepped}
 use Rattle.stepping.specs.Turning.{Stays}
-use Rattle.stepping.specs.Moves.{executed, Does, Stops, does_stop}
+use Rattle.stepping.specs.Moves.{executed, Does, does_stuck}
 use Rattle.stepping.specs.Windowed.{Before}
 
 -- what the parts of a step ask for beside what stands before the instruction
@@ -75,7 +72,7 @@ module _ (b : List ℕ) (n : ℕ) (t s g : List ℕ) (d : ℕ) (k : Frame) (x : 
   at_callable h = subst (λ (m : ℕ). Callable b m t) (sym l.classes) h
 
   -- so is what the step answers
-  pub stepped : (cells : List ℕ) (used : ℕ) (t' s' g' cells' : List ℕ) (m : Moved) → Dispatch b n t
+  pub stepped : (cells : List ℕ) (used : ℕ) (t' s' g' cells' : List ℕ) (m : Move) → Dispatch b n t
       → Does b x.classes t s g cells d k used t' s' g' cells' m (step (program_now b x.classes t) (machine_of cells used t s g d k))
       → Stepped b n t s g cells d k used t' s' g' cells' m
   stepped cells used t' s' g' cells' m y q =
@@ -85,8 +82,6 @@ module _ (b : List ℕ) (n : ℕ) (t s g : List ℕ) (d : ℕ) (k : Frame) (x : 
         results = w.results;
         value = w.value;
         is = w.is;
-        most = w.most;
-        budgeted = w.budgeted;
         stands = w.stands;
         dispatch = w.dispatch y;
         front = w.front;
@@ -127,11 +122,11 @@ module _ (b t s g : List ℕ) (d : ℕ) (k : Frame) (x : Site) (h : Standing b x
   code_small = omega (arith, length_part x.start (x.end - x.start) b (omega (arith, l.bounded.from, l.bounded.to)), l.bounded.size)
 
   -- past the code
-  pub step_past : (cells : List ℕ) (used : ℕ) (m : Moved) → length (site_code b x) ≤ k.offset → Stops 6 used m
-      → Does b x.classes t s g cells d k used t s g cells m (step P (machine_of cells used t s g d k))
+  pub step_past : (cells : List ℕ) (used : ℕ) → length (site_code b x) ≤ k.offset
+      → Does b x.classes t s g cells d k used t s g cells (Err (ending NoWay used)) (step P (machine_of cells used t s g d k))
   unfolding step
-  step_past cells used m o z =
-      does_stop b x.classes t s g cells d k used _ m 6 z (sym (rw (code_here, le-ltb k.offset (length (site_code b x)) o)))
+  step_past cells used o =
+      does_stuck b x.classes t s g cells d k used _ (sym (rw (code_here, le-ltb k.offset (length (site_code b x)) o)))
 
   module _ (z : ℕ) (i : code.Instr) (o : k.offset < length (site_code b x)) (ez : z ≡ size_at (site_code b x) k.offset) (lz : z < 4) (e : DecodedAt b t x.class (site_code b x) k.offset i) where
     size_here : size_at (code_of M) k.offset ≡ z
@@ -150,7 +145,7 @@ module _ (b t s g : List ℕ) (d : ℕ) (k : Frame) (x : Site) (h : Standing b x
         let q : ltb k.offset (length (code_of M)) ≡ true = ap (λ (c : List ℕ). ltb k.offset (length c)) code_here ∙ lt-ltb k.offset (length (site_code b x)) o in
         rw (q, size_here, ← instruction_here i e)
 
-    pub step_by_lem : (cells : List ℕ) (used : ℕ) (t' s' g' cells' : List ℕ) (m : Moved)
+    pub step_by_lem : (cells : List ℕ) (used : ℕ) (t' s' g' cells' : List ℕ) (m : Move)
         → Does b x.classes t s g cells d k used t' s' g' cells' m (executed b x.classes t s g cells used d k z (instr_of i))
         → Does b x.classes t s g cells d k used t' s' g' cells' m (step P (machine_of cells used t s g d k))
     step_by_lem cells used t' s' g' cells' m y = subst (Does b x.classes t s g cells d k used t' s' g' cells' m) (step_is cells used) y
@@ -232,21 +227,21 @@ module _ (b : List ℕ) (n : ℕ) (t s g cells : List ℕ) (d : ℕ) (k : Frame)
   abbrev there : Located b x.classes (k.class - 11) k.method x (front t)
   there = at_located b n t s g d k x l
 
-  pub past_stepped : (used : ℕ) (m : Moved) → Dispatch b n t → length (site_code b x) ≤ k.offset → Stops 6 used m → Stepped b n t s g cells d k used t s g cells m
-  past_stepped used m v o z = stepped b n t s g d k x l cells used t s g cells m v (step_past b t s g d k x here there cells used m o z)
+  pub past_stepped : (used : ℕ) → Dispatch b n t → length (site_code b x) ≤ k.offset → Stepped b n t s g cells d k used t s g cells (Err (ending NoWay used))
+  past_stepped used v o = stepped b n t s g d k x l cells used t s g cells _ v (step_past b t s g d k x here there cells used o)
 
   module _ (z : ℕ) (i : code.Instr) (o : k.offset < length (site_code b x)) (ez : z ≡ size_at (site_code b x) k.offset) (lz : z < 4) (e : DecodedAt b t x.class (site_code b x) k.offset i) where
     pub one_asked : Dispatch b n t → length cells ≤ max_heap → Callable b n t → Before b t s g cells x d k z × Ready b t s g x d k z i
     one_asked v q w =
         (before_here b t s g d k x here there z i o ez lz e cells q, ready_here b t s g d k x here there z i o ez lz e (at_callable b n t s g d k x l w) (at_dispatch b n t s g d k x l v))
 
-    pub one_stepped : (used : ℕ) (t' s' g' cells' : List ℕ) (m : Moved) → Dispatch b n t
+    pub one_stepped : (used : ℕ) (t' s' g' cells' : List ℕ) (m : Move) → Dispatch b n t
         → Does b x.classes t s g cells d k used t' s' g' cells' m (executed b x.classes t s g cells used d k z (instr_of i))
         → Stepped b n t s g cells d k used t' s' g' cells' m
     one_stepped used t' s' g' cells' m v y = stepped b n t s g d k x l cells used t' s' g' cells' m v (step_by_lem b t s g d k x here there z i o ez lz e cells used t' s' g' cells' m y)
 
 -- ---- by the variant that the code has before it
-module _ (b t s g cells : List ℕ) (x : Site) (d : ℕ) (k : Frame) (used z : ℕ) (i : code.Instr) (t' s' g' cells' : List ℕ) (m : Moved) where
+module _ (b t s g cells : List ℕ) (x : Site) (d : ℕ) (k : Frame) (used z : ℕ) (i : code.Instr) (t' s' g' cells' : List ℕ) (m : Move) where
   pub instr_arm : (j : code.Instr) → i ≡ j → Does b x.classes t s g cells d k used t' s' g' cells' m (executed b x.classes t s g cells used d k z (instr_of j))
       → Does b x.classes t s g cells d k used t' s' g' cells' m (executed b x.classes t s g cells used d k z (instr_of i))
   instr_arm j e y = subst (λ (u : code.Instr). Does b x.classes t s g cells d k used t' s' g' cells' m (executed b x.classes t s g cells used d k z (instr_of u))) (sym e) y
@@ -256,9 +251,9 @@ module _ (b t s g cells : List ℕ) (x : Site) (d : ℕ) (k : Frame) (used z : �
   call_arm j e q y =
       instr_arm (Calling j) e (subst (λ (u : ℕ). Does b x.classes t s g cells d k used t' s' g' cells' m (executed b x.classes t s g cells used d k u (call_of j))) (sym q) y)
 
-pub stuck_arm : (b t s g cells : List ℕ) (x : Site) (d : ℕ) (k : Frame) (used z : ℕ) (i j : code.Instr) (m : Moved) → i ≡ j → executed b x.classes t s g cells used d k z (instr_of j) ≡ stopped stuck
-    → Stops 6 used m → Does b x.classes t s g cells d k used t s g cells m (executed b x.classes t s g cells used d k z (instr_of i))
-stuck_arm b t s g cells x d k used z i j m e q y = instr_arm b t s g cells x d k used z i t s g cells m j e (does_stop b x.classes t s g cells d k used _ m 6 y (sym q))
+pub stuck_arm : (b t s g cells : List ℕ) (x : Site) (d : ℕ) (k : Frame) (used z : ℕ) (i j : code.Instr) → i ≡ j → executed b x.classes t s g cells used d k z (instr_of j) ≡ stopped stuck
+    → Does b x.classes t s g cells d k used t s g cells (Err (ending NoWay used)) (executed b x.classes t s g cells used d k z (instr_of i))
+stuck_arm b t s g cells x d k used z i j e q = instr_arm b t s g cells x d k used z i t s g cells _ j e (does_stuck b x.classes t s g cells d k used _ (sym q))
 
 pub illegal-stuck : (b t s g cells : List ℕ) (x : Site) (d : ℕ) (k : Frame) (used z : ℕ) → executed b x.classes t s g cells used d k z (instr_of Illegal) ≡ stopped stuck
 unfolding execute

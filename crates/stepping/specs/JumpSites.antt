@@ -1,7 +1,6 @@
 -- A branch leads to an offset of two bytes. Assumes nothing.
 use Rattle.std.specs.Prelude.{ℕ, ◌+◌, ◌-◌, ◌*◌, ◌%◌, ◌^◌, ◌<◌, ◌≡◌, refl, Bool, cond, List, [], ◌∷◌, get_or, eqb, ltb}
-use Rattle.std.proofs.Common.{arith}
-use Rattle.std.proofs.Math.Bool.{true, false}
+use Rattle.std.proofs.Common.{arith, true, false}
 use Rattle.classfiles.specs.Limits.{max_dimensions}
 use Rattle.classfiles.specs.Descriptors.{Ref, cls, arr, dint, dref, dimensions}
 use Rattle.reader.specs.Program.{Program, Method, class}

@@ -1,11 +1,8 @@
 -- Where an instruction that stays in its call goes on: within max_stack, at an offset of two bytes. Assumes nothing.
-use Rattle.std.specs.Prelude.{ℕ, zero, suc, ◌+◌, ◌<◌, ◌≤◌, ◌≡◌, Bool, cond, List, [], ◌∷◌, eqb, ltb, length}
-use Rattle.std.proofs.Math.Path.{refl, subst}
-use Rattle.std.proofs.Common.{sym, ap, arith, le-ltb, leb-true}
-use Rattle.std.proofs.Math.Bool.{true, false}
+use Rattle.std.specs.Prelude.{Ok, ℕ, zero, suc, ◌+◌, ◌<◌, ◌≤◌, ◌≡◌, Bool, cond, List, [], ◌∷◌, eqb, ltb, length}
+use Rattle.std.proofs.Common.{sym, ap, arith, le-ltb, leb-true, refl, subst, true, false, leb}
 use Rattle.std.specs.Bool.{beq}
 use Rattle.std.proofs.Math.Option.{Option, none, some}
-use Rattle.std.proofs.Math.Dec.{leb}
 use Rattle.reader.specs.BuiltIns.{object, array_index, arithmetic, array_store, class_cast, negative_size, null_pointer}
 use Rattle.classfiles.specs.Descriptors.{Ref, cls, arr, Desc, dref}
 use Rattle.classfiles.specs.Members.{Handler}
@@ -25,11 +22,11 @@ use Rattle.plain.specs.Heap.{Heap, heap, Val, empty, num, ref, type_at, has_room
 use Rattle.plain.specs.Integers.{holds, negative}
 use Rattle.plain.specs.Machine.{call, machine, Result, next, ended, stopped, Here, method_at, only, pop_any, pop_int, with_int, with_object, with_element, with_room, receiver, local_at, create, fault, landed, land, catcher, Landing, nowhere, landing_at, calls_from, go_on, resumed}
 use Rattle.plain.specs.Step.{execute, element, load, make_array, make, get_field, put_field, object_desc}
-use Rattle.plain.specs.Windows.{Stands, turn_of, locs_of, ops_of, end_of, length_ops}
+use Rattle.plain.specs.Windows.{Stands, turn_of, locs_of, ops_of, length_ops}
 use Rattle.plain.specs.WindowForms.{doing}
 use Rattle.plain.specs.HeapTurns.{Steps}
 use Rattle.plain.specs.declared.window.Place.{Place}
-use Rattle.plain.specs.declared.window.Turn.{Turn}
+use Rattle.plain.specs.declared.window.Onward.{Onward}
 
 -- it stays in its call, and a target that it has is of two bytes
 abbrev pub Stays : Instr → Type 0
@@ -247,14 +244,12 @@ quiet-land P x c =
     (none_past P (method_at P x) (past (body (method_at P x)).table) c (body (method_at P x)).table (omega arith))
 
 -- so a turn that goes on does
-pub turn_low : (P : Program) (x : Here) (I : Instr) → Stays I → x.after < 65536 → (K : Program → Type 0) (c : Place) (w g cells w' g' cells' : List ℕ) (r : Turn)
-    → Steps K c w g cells w' g' cells' r (doing w g c.operands I) → K P → Stands P x c w g cells → r.end ≡ 0 → (r.operands ≤ c.most) × (r.at < 65536)
+pub turn_low : (P : Program) (x : Here) (I : Instr) → Stays I → x.after < 65536 → (K : Program → Type 0) (c : Place) (w g cells w' g' cells' : List ℕ) (r : Onward)
+    → Steps K c w g cells w' g' cells' (Ok r) (doing w g c.operands I) → K P → Stands P x c w g cells → (r.operands ≤ c.most) × (r.at < 65536)
 unfolding doing
-turn_low P x I h a K c w g cells w' g' cells' r z k s e =
+turn_low P x I h a K c w g cells w' g' cells' r z k s =
     let q : Here = quiet P x in
     let f : Fine P q (execute P q (ops_of w g c.operands) I) = execute_fine P q a (quiet-land P x) (ops_of w g c.operands) I h in
-    let y : turn_of P q c.locals w' g' cells' r ≡ execute P q (ops_of w g c.operands) I = z.is P q k (record { heap = s.heap; locals = s.locals; after = s.after; most = s.most }) in
-    let v : Fine P q (turn_of P q c.locals w' g' cells' r) = subst (Fine P q) (sym y) f in
-    let u : Fine P q (next (resumed q (heap cells' r.used) r.at (locs_of w' g' c.locals) (ops_of w' g' r.operands))) =
-    subst (λ (i : ℕ). Fine P q (cond (eqb i 0) (next (resumed q (heap cells' r.used) r.at (locs_of w' g' c.locals) (ops_of w' g' r.operands))) (cond (eqb i 7) (fault P q r.at) (stopped (end_of i))))) e v in
+    let y : turn_of P q c.locals w' g' cells' (Ok r) ≡ execute P q (ops_of w g c.operands) I = z.is P q k (record { heap = s.heap; locals = s.locals; after = s.after; most = s.most }) in
+    let u : Fine P q (next (resumed q (heap cells' r.used) r.at (locs_of w' g' c.locals) (ops_of w' g' r.operands))) = subst (Fine P q) (sym y) f in
     (omega (arith, u.is.0, length_ops w' g' r.operands, s.most), u.is.1)

@@ -1,6 +1,6 @@
 -- A turn of the running call's window, as a move of the run. Assumes nothing.
-use Rattle.std.specs.Prelude.{ℕ, zero, suc, ◌+◌, ◌-◌, ◌*◌, ◌<◌, ◌≤◌, ◌≡◌, refl, List, [], ◌∷◌, ◌++◌, length, take, drop}
-use Rattle.std.proofs.Common.{sym, ap, subst, ◌∙◌, arith, ne_eqb, length-drop, length-take-le}
+use Rattle.std.specs.Prelude.{Result as Answer, Ok, Err, ℕ, zero, suc, ◌+◌, ◌-◌, ◌*◌, ◌<◌, ◌≤◌, ◌≡◌, refl, List, [], ◌∷◌, ◌++◌, length, take, drop}
+use Rattle.std.proofs.Common.{sym, ap, subst, ◌∙◌, arith, length-drop, length-take-le}
 use Rattle.classfiles.specs.Limits.{max_heap}
 use Rattle.classfiles.specs.Blocks.{block_size}
 use Rattle.reader.specs.Access.{Limited}
@@ -14,21 +14,23 @@ use Rattle.verifier.specs.Besides.{besides_none}
 use Rattle.shaping.specs.Phases.{program_now}
 use Rattle.rules.specs.declared.site.Site.{Site}
 use Rattle.plain.specs.Heap.{heap}
-use Rattle.plain.specs.Machine.{Call, machine, Result, next, Here}
-use Rattle.plain.specs.Windows.{turn_of, Sized, Stands, Goes}
+use Rattle.plain.specs.Machine.{Call, machine, next, Here}
+use Rattle.plain.specs.Windows.{Turn, turn_of, Sized, Stands, Goes}
 use Rattle.plain.specs.WindowForms.{doing}
 use Rattle.plain.specs.HeapTurns.{Steps, windowed}
 use Rattle.plain.specs.Calls.{window_at, call_of, waiting, waiting_kept, part-front, part_window, part_length}
 use Rattle.plain.specs.CallSteps.{Lent}
 use Rattle.plain.specs.declared.frames.Frame.{Frame}
 use Rattle.plain.specs.declared.window.Place.{Place}
-use Rattle.plain.specs.declared.window.Turn.{Turn}
+use Rattle.plain.specs.declared.window.Onward.{Onward}
+use Rattle.plain.specs.declared.window.Halt.{Halt}
 use Rattle.running.specs.Standing.{records, machine_of, Standing, standing-turn, few_operands, few_locals}
 use Rattle.running.specs.Throws.{stack_is}
 use Rattle.running.specs.Calling.{parents_of}
-use Rattle.stepping.specs.declared.moves.Moved.{Moved}
+use Rattle.running.specs.Throwing.{Move}
+use Rattle.running.specs.declared.ends.Moved.{Moved}
 use Rattle.stepping.specs.Turning.{Stays, turn_low}
-use Rattle.stepping.specs.Moves.{here_of, executed, here_runs, Does, onward, does_on, does_stop, does_kept, Faulted, After, Lands, three}
+use Rattle.stepping.specs.Moves.{here_of, executed, Does, does_on, halted_does, After, Lands}
 
 -- ---- what stands before an instruction of z bytes: the run, and the running method's site
 pub record Before (b t s g cells : List ℕ) (x : Site) (d : ℕ) (k : Frame) (z : ℕ) : Type 0 where
@@ -42,8 +44,12 @@ abbrev pub place_of : Site → Frame → ℕ → ℕ → Place
 place_of x k used z = record { operands = k.operands; most = x.stack; locals = k.locals; after = k.offset + z; used = used }
 
 -- the call after it
-abbrev pub after_of : Frame → Turn → Frame
+abbrev pub after_of : Frame → Onward → Frame
 after_of k r = record { class = k.class; method = k.method; offset = r.at; own = k.own; operands = r.operands; locals = k.locals }
+
+abbrev pub turn_on : ℕ → Frame → Turn → Answer Moved Halt
+turn_on d k (Ok r) = Ok (record { depth = d; call = after_of k r; used = r.used })
+turn_on d k (Err h) = Err h
 
 -- a slice whose window at depth d came back as m
 abbrev pub put_window : List ℕ → ℕ → ℕ → List ℕ → List ℕ
@@ -76,8 +82,7 @@ module _ (b t s g cells : List ℕ) (x : Site) (d : ℕ) (k : Frame) (z : ℕ) (
     locals = few_locals b n t s g d k h.standing;
   })
 
-  module _ (K : Program → Type 0) (kp : K (program_now b n t)) (used : ℕ) (I : Instr) (low : Stays I) (w' v' cells₁ : List ℕ) (r : Turn)
-      (y : Steps K (place_of x k used z) (window_at s d) (window_at g d) cells w' v' cells₁ r (doing (window_at s d) (window_at g d) k.operands I))
+  module _ (K : Program → Type 0) (kp : K (program_now b n t)) (used : ℕ) (I : Instr) (low : Stays I) (w' v' cells₁ : List ℕ)
       (lw : length w' ≡ 64) (lv : length v' ≡ 64) where
     abbrev X : Here
     X = here_of t s g cells used d k z
@@ -110,59 +115,37 @@ module _ (b t s g cells : List ℕ) (x : Site) (d : ℕ) (k : Frame) (z : ℕ) (
     stands : Stands P X (place_of x k used z) (window_at s d) (window_at g d) cells
     stands = record { heap = refl; locals = refl; after = refl; most = sym (stack_is b n t (record { readied = h.standing.ready; passes = h.standing.shaped }) k h.standing.running.of x h.located) }
 
-    most : r.end ≡ 0 → (r.operands ≤ x.stack) × (r.at < 65536)
-    most e = turn_low P X I low h.after K (place_of x k used z) (window_at s d) (window_at g d) cells w' v' cells₁ r y kp stands e
+    abbrev Turned : Turn → Type 0
+    Turned r = Steps K (place_of x k used z) (window_at s d) (window_at g d) cells w' v' cells₁ r (doing (window_at s d) (window_at g d) k.operands I)
 
-    turned : turn_of P X k.locals w' v' cells₁ r ≡ executed b n t s g cells used d k z I
+    turned : (r : Turn) → Turned r → turn_of P X k.locals w' v' cells₁ r ≡ executed b n t s g cells used d k z I
     unfolding doing
-    turned = y.is P X kp stands
+    turned r y = y.is P X kp stands
 
-    module _ (s' g' cells' : List ℕ) (m : Moved) (a : After b n t s₁ g₁ cells₁ s' g' cells' d k used r.end r.at (onward d (after_of k r) r.used) m) where
-      abbrev R : Result
-      R = executed b n t s g cells used d k z I
+    s_kept : (h : Halt) → Turned (Err h) → s₁ ≡ s
+    s_kept h y = ap (λ (m : List ℕ). put_window s 64 d m) (y.kept h refl).0 ∙ put_same s 64 d
 
-      abbrev D : Type 0
-      D = Does b n t s g cells d k used t s' g' cells' m R
+    g_kept : (h : Halt) → Turned (Err h) → g₁ ≡ g
+    g_kept h y = ap (λ (m : List ℕ). put_window g 64 d m) (y.kept h refl).1 ∙ put_same g 64 d
 
-      goes : r.end ≡ 0 → D
-      goes e =
-          let w = a.goes e in
-          let o = most e in
-          rw (w.1, w.2, w.3)
-          (does_on b n t s g cells d k used R t s₁ g₁ cells₁ m d (after_of k r) r.used w.0 (same ∙ sym (rw e) ∙ turned)
-          (standing-turn b n t s g s₁ g₁ d k (after_of k r) h.standing lent refl refl refl
-          (omega (arith, o.0, stack_is b n t (record { readied = h.standing.ready; passes = h.standing.shaped }) k h.standing.running.of x h.located)) o.1)
-          (besides_none records 384 t))
-        where
-          same : next (machine_of cells₁ r.used t s₁ g₁ d (after_of k r)) ≡ next (machine (heap cells₁ r.used) (call_of (after_of k r) w' v') (waiting t records s g d))
-          same =
-              ap (λ (W : List ℕ). next (machine (heap cells₁ r.used) (call_of (after_of k r) W (window_at g₁ d)) (waiting t records s₁ g₁ d))) (part_window s w' d lw rs)
-              ∙ ap (λ (U : List ℕ). next (machine (heap cells₁ r.used) (call_of (after_of k r) w' U) (waiting t records s₁ g₁ d))) (part_window g v' d lv rg)
-              ∙ ap (λ (Q : List Call). next (machine (heap cells₁ r.used) (call_of (after_of k r) w' v') Q))
-              (waiting_kept t t records s₁ s g₁ g d (λ e l. refl) (part-front s w' d lw rs) (part-front g v' d lv rg))
-
-      s_kept : (r.end ≡ 0 → ⊥) → s₁ ≡ s
-      s_kept e = ap (λ (m : List ℕ). put_window s 64 d m) (y.kept e).0 ∙ put_same s 64 d
-
-      g_kept : (r.end ≡ 0 → ⊥) → g₁ ≡ g
-      g_kept e = ap (λ (m : List ℕ). put_window g 64 d m) (y.kept e).1 ∙ put_same g 64 d
-
-      faults : r.end ≡ 7 → D
-      faults e =
-          let q : r.end ≡ 0 → ⊥ = λ f. omega arith in
-          let F : Faulted b n t s g cells s' g' cells' d k used r.at m = subst (λ (u : List ℕ). Faulted b n t u g cells s' g' cells' d k used r.at m) (s_kept q)
-          (subst (λ (u : List ℕ). Faulted b n t s₁ u cells s' g' cells' d k used r.at m) (g_kept q)
-          (subst (λ (u : List ℕ). Faulted b n t s₁ g₁ u s' g' cells' d k used r.at m) (y.kept q).2 (a.fault e))) in
-          subst (Does b n t s g cells d k used t s' g' cells' m) (sym (rw e) ∙ turned) (F.does X (here_runs t s g cells used d k z) refl)
-
-      stops : (r.end ≡ 0 → ⊥) → (r.end ≡ 7 → ⊥) → D
-      stops e f =
-          let w = a.stop e f in
-          does_kept b n t s g cells d k used R t s' g' cells' m refl (w.1 ∙ s_kept e) (w.2 ∙ g_kept e) (w.3 ∙ (y.kept e).2)
-          (does_stop b n t s g cells d k used R m r.end w.0 (sym (rw (ne_eqb r.end 0 e, ne_eqb r.end 7 f)) ∙ turned))
-
-      pub turn_does : D
-      turn_does = three r.end goes faults stops
+    pub turn_does : (s' g' cells' : List ℕ) (m : Move) (r : Turn) → Turned r → After b n t s₁ g₁ cells₁ s' g' cells' d k used (turn_on d k r) m
+        → Does b n t s g cells d k used t s' g' cells' m (executed b n t s g cells used d k z I)
+    turn_does s' g' cells' m (Err h) y a =
+        halted_does b n t s g cells d k used z h _ (turned (Err h) y) t s₁ g₁ cells₁ s' g' cells' m refl (s_kept h y) (g_kept h y) (y.kept h refl).2 a.by
+    turn_does s' g' cells' m (Ok r) y a =
+        let o = turn_low P X I low h.after K (place_of x k used z) (window_at s d) (window_at g d) cells w' v' cells₁ r y kp stands in
+        rw (a.by.0, a.by.1, a.by.2, a.by.3)
+        (does_on b n t s g cells d k used (executed b n t s g cells used d k z I) t s₁ g₁ cells₁ (record { depth = d; call = after_of k r; used = r.used }) (same ∙ turned (Ok r) y)
+        (standing-turn b n t s g s₁ g₁ d k (after_of k r) h.standing lent refl refl refl
+        (omega (arith, o.0, stack_is b n t (record { readied = h.standing.ready; passes = h.standing.shaped }) k h.standing.running.of x h.located)) o.1)
+        (besides_none records 384 t))
+      where
+        same : next (machine_of cells₁ r.used t s₁ g₁ d (after_of k r)) ≡ next (machine (heap cells₁ r.used) (call_of (after_of k r) w' v') (waiting t records s g d))
+        same =
+            ap (λ (W : List ℕ). next (machine (heap cells₁ r.used) (call_of (after_of k r) W (window_at g₁ d)) (waiting t records s₁ g₁ d))) (part_window s w' d lw rs)
+            ∙ ap (λ (U : List ℕ). next (machine (heap cells₁ r.used) (call_of (after_of k r) w' U) (waiting t records s₁ g₁ d))) (part_window g v' d lv rg)
+            ∙ ap (λ (Q : List Call). next (machine (heap cells₁ r.used) (call_of (after_of k r) w' v') Q))
+            (waiting_kept t t records s₁ s g₁ g d (λ e l. refl) (part-front s w' d lw rs) (part-front g v' d lv rg))
 
   -- in the form that the code has: the window is p slots, of which it is known that they are 64
   abbrev pub TurnOf : (Program → Type 0) → Place → Instr → ℕ → ℕ → List ℕ → List ℕ → List ℕ → Turn → Type 0
@@ -181,20 +164,21 @@ module _ (b t s g cells : List ℕ) (x : Site) (d : ℕ) (k : Frame) (z : ℕ) (
     lv64 : length v' ≡ 64
     lv64 = lv ∙ ap (λ (i : ℕ). length (take i (drop (64 * d) g))) eq ∙ length_window g h.standing.lent.tags
 
-    pub part_lands : length cells₁ ≡ length cells → Lands b n t (put_window s p d w') (put_window g q d v') cells₁ d k r.end
-    part_lands l = record {
-      stands = λ e. rw (ep, eq) (still K kp used I low w' v' cells₁ r there lw64 lv64);
-      size = omega (arith, l, h.size);
-    }
+    pub part_lands : length cells₁ ≡ length cells → (o : Answer Moved Halt) → o ≡ turn_on d k r → Lands b n t (put_window s p d w') (put_window g q d v') cells₁ d k o
+    part_lands l o e = rw e (go r)
+      where
+        go : (r : Turn) → Lands b n t (put_window s p d w') (put_window g q d v') cells₁ d k (turn_on d k r)
+        go (Ok r) = record { stands = tt; size = omega (arith, l, h.size) }
+        go (Err i) = record { stands = rw (ep, eq) (still K kp used I low w' v' cells₁ lw64 lv64); size = omega (arith, l, h.size) }
 
-    pub part_does : (s' g' cells' : List ℕ) (on m : Moved) → on ≡ onward d (after_of k r) r.used
-        → After b n t (put_window s p d w') (put_window g q d v') cells₁ s' g' cells' d k used r.end r.at on m
+    pub part_does : (s' g' cells' : List ℕ) (o : Answer Moved Halt) (m : Move) → o ≡ turn_on d k r
+        → After b n t (put_window s p d w') (put_window g q d v') cells₁ s' g' cells' d k used o m
         → Does b n t s g cells d k used t s' g' cells' m (executed b n t s g cells used d k z I)
-    part_does s' g' cells' on m eo a =
-        turn_does K kp used I low w' v' cells₁ r there lw64 lv64 s' g' cells' m
-        (subst (λ (i : ℕ). After b n t (put_window s i d w') (put_window g 64 d v') cells₁ s' g' cells' d k used r.end r.at (onward d (after_of k r) r.used) m) ep
-        (subst (λ (i : ℕ). After b n t (put_window s p d w') (put_window g i d v') cells₁ s' g' cells' d k used r.end r.at (onward d (after_of k r) r.used) m) eq
-        (subst (λ (o : Moved). After b n t (put_window s p d w') (put_window g q d v') cells₁ s' g' cells' d k used r.end r.at o m) eo a)))
+    part_does s' g' cells' o m eo a =
+        turn_does K kp used I low w' v' cells₁ lw64 lv64 s' g' cells' m r there
+        (subst (λ (i : ℕ). After b n t (put_window s i d w') (put_window g 64 d v') cells₁ s' g' cells' d k used (turn_on d k r) m) ep
+        (subst (λ (i : ℕ). After b n t (put_window s p d w') (put_window g i d v') cells₁ s' g' cells' d k used (turn_on d k r) m) eq
+        (subst (λ (u : Answer Moved Halt). After b n t (put_window s p d w') (put_window g q d v') cells₁ s' g' cells' d k used u m) eo a)))
 
   -- with the parents' numbers at hand, as every group but `new` asks
   abbrev pub Kin : Program → Type 0
@@ -206,11 +190,11 @@ module _ (b t s g cells : List ℕ) (x : Site) (d : ℕ) (k : Frame) (z : ℕ) (
   module _ (used : ℕ) (c : Place) (ec : c ≡ place_of x k used z) (I : Instr) (low : Stays I) (p q : ℕ) (ep : p ≡ 64) (eq : q ≡ 64) (w' v' : List ℕ) where
     module _ (cells₁ : List ℕ) (r : Turn) (y : TurnOf Kin c I p q w' v' cells₁ r)
         (lw : length w' ≡ length (take p (drop (64 * d) s))) (lv : length v' ≡ length (take q (drop (64 * d) g))) where
-      pub kin_lands : length cells₁ ≡ length cells → Lands b n t (put_window s p d w') (put_window g q d v') cells₁ d k r.end
+      pub kin_lands : length cells₁ ≡ length cells → (o : Answer Moved Halt) → o ≡ turn_on d k r → Lands b n t (put_window s p d w') (put_window g q d v') cells₁ d k o
       kin_lands = part_lands Kin kin_here used c ec I low p q ep eq w' v' cells₁ r y lw lv
 
-      pub kin_does : (s' g' cells' : List ℕ) (on m : Moved) → on ≡ onward d (after_of k r) r.used
-          → After b n t (put_window s p d w') (put_window g q d v') cells₁ s' g' cells' d k used r.end r.at on m
+      pub kin_does : (s' g' cells' : List ℕ) (o : Answer Moved Halt) (m : Move) → o ≡ turn_on d k r
+          → After b n t (put_window s p d w') (put_window g q d v') cells₁ s' g' cells' d k used o m
           → Does b n t s g cells d k used t s' g' cells' m (executed b n t s g cells used d k z I)
       kin_does = part_does Kin kin_here used c ec I low p q ep eq w' v' cells₁ r y lw lv
 
@@ -220,26 +204,27 @@ module _ (b t s g cells : List ℕ) (x : Site) (d : ℕ) (k : Frame) (z : ℕ) (
       with_heap : TurnOf Kin c I p q w' v' cells r
       with_heap = windowed Kin c (take p (drop (64 * d) s)) (take q (drop (64 * d) g)) cells w' v' r (doing (take p (drop (64 * d) s)) (take q (drop (64 * d) g)) c.operands I) y
 
-      pub goes_lands : Lands b n t (put_window s p d w') (put_window g q d v') cells d k r.end
+      pub goes_lands : (o : Answer Moved Halt) → o ≡ turn_on d k r → Lands b n t (put_window s p d w') (put_window g q d v') cells d k o
       goes_lands = kin_lands cells r with_heap lw lv refl
 
-      pub goes_does : (s' g' cells' : List ℕ) (on m : Moved) → on ≡ onward d (after_of k r) r.used
-          → After b n t (put_window s p d w') (put_window g q d v') cells s' g' cells' d k used r.end r.at on m
+      pub goes_does : (s' g' cells' : List ℕ) (o : Answer Moved Halt) (m : Move) → o ≡ turn_on d k r
+          → After b n t (put_window s p d w') (put_window g q d v') cells s' g' cells' d k used o m
           → Does b n t s g cells d k used t s' g' cells' m (executed b n t s g cells used d k z I)
       goes_does = kin_does cells r with_heap lw lv
 
   -- where the window was only read
-  pub read_lands : (end : ℕ) → Lands b n t s g cells d k end
-  read_lands end = record { stands = λ e. h.standing; size = h.size }
+  pub read_lands : (o : Answer Moved Halt) → Lands b n t s g cells d k o
+  read_lands (Ok o) = record { stands = tt; size = h.size }
+  read_lands (Err i) = record { stands = h.standing; size = h.size }
 
   pub read_does : (used : ℕ) (c : Place) → c ≡ place_of x k used z → (I : Instr) → Stays I → (p q : ℕ) → p ≡ 64 → q ≡ 64 → (r : Turn)
       → TurnOf Kin c I p q (take p (drop (64 * d) s)) (take q (drop (64 * d) g)) cells r
-      → (s' g' cells' : List ℕ) (on m : Moved) → on ≡ onward d (after_of k r) r.used → After b n t s g cells s' g' cells' d k used r.end r.at on m
+      → (s' g' cells' : List ℕ) (o : Answer Moved Halt) (m : Move) → o ≡ turn_on d k r → After b n t s g cells s' g' cells' d k used o m
       → Does b n t s g cells d k used t s' g' cells' m (executed b n t s g cells used d k z I)
-  read_does used c ec I low p q ep eq r y s' g' cells' on m eo a =
-      kin_does used c ec I low p q ep eq (take p (drop (64 * d) s)) (take q (drop (64 * d) g)) cells r y refl refl s' g' cells' on m eo
-      (subst (λ (l : List ℕ). After b n t l (put_window g q d (take q (drop (64 * d) g))) cells s' g' cells' d k used r.end r.at on m) (sym (put_same s p d))
-      (subst (λ (l : List ℕ). After b n t s l cells s' g' cells' d k used r.end r.at on m) (sym (put_same g q d)) a))
+  read_does used c ec I low p q ep eq r y s' g' cells' o m eo a =
+      kin_does used c ec I low p q ep eq (take p (drop (64 * d) s)) (take q (drop (64 * d) g)) cells r y refl refl s' g' cells' o m eo
+      (subst (λ (l : List ℕ). After b n t l (put_window g q d (take q (drop (64 * d) g))) cells s' g' cells' d k used o m) (sym (put_same s p d))
+      (subst (λ (l : List ℕ). After b n t s l cells s' g' cells' d k used o m) (sym (put_same g q d)) a))
 
   -- an object of class i, which has `size` fields
   abbrev pub Sizing : ℕ → ℕ → Program → Type 0
@@ -248,11 +233,11 @@ module _ (b t s g cells : List ℕ) (x : Site) (d : ℕ) (k : Frame) (z : ℕ) (
   module _ (i size : ℕ) (es : size ≡ length (layout (program_now b n t) i)) (used : ℕ) (c : Place) (ec : c ≡ place_of x k used z) (p q : ℕ) (ep : p ≡ 64) (eq : q ≡ 64)
       (w' v' cells₁ : List ℕ) (r : Turn) (y : TurnOf (Sizing size i) c (new i) p q w' v' cells₁ r)
       (lw : length w' ≡ length (take p (drop (64 * d) s))) (lv : length v' ≡ length (take q (drop (64 * d) g))) where
-    pub make_lands : length cells₁ ≡ length cells → Lands b n t (put_window s p d w') (put_window g q d v') cells₁ d k r.end
+    pub make_lands : length cells₁ ≡ length cells → (o : Answer Moved Halt) → o ≡ turn_on d k r → Lands b n t (put_window s p d w') (put_window g q d v') cells₁ d k o
     make_lands = part_lands (Sizing size i) es used c ec (new i) tt p q ep eq w' v' cells₁ r y lw lv
 
-    pub make_does : (s' g' cells' : List ℕ) (on m : Moved) → on ≡ onward d (after_of k r) r.used
-        → After b n t (put_window s p d w') (put_window g q d v') cells₁ s' g' cells' d k used r.end r.at on m
+    pub make_does : (s' g' cells' : List ℕ) (o : Answer Moved Halt) (m : Move) → o ≡ turn_on d k r
+        → After b n t (put_window s p d w') (put_window g q d v') cells₁ s' g' cells' d k used o m
         → Does b n t s g cells d k used t s' g' cells' m (executed b n t s g cells used d k z (new i))
     make_does = part_does (Sizing size i) es used c ec (new i) tt p q ep eq w' v' cells₁ r y lw lv
 

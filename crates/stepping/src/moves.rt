@@ -1,98 +1,62 @@
-// What a part of a step answers, and how an answer goes on.
-ghost use Rattle.std.specs.Prelude.{◌≡◌, ◌≤◌, length};
-ghost use Rattle.classfiles.specs.Limits.{max_heap};
-ghost use Rattle.running.specs.Standing.{Standing};
-ghost use Rattle.stepping.specs.Moves.{Stops, Thrown, Given, Faulted, After, Lands};
+// How what a part of a step answers goes on.
+ghost use Rattle.std.specs.Prelude.{◌≡◌};
+ghost use Rattle.stepping.specs.Moves.{After, Lands, Given, going_on, cell_of};
 
+use plain::calls::Going;
 use plain::frames::Frame;
-use plain::window::Turn;
+use plain::values::Value;
+use plain::window::Halt;
+use running::ends::{End, Ended, Move, Moved};
 use running::leaving::Left;
 use running::throwing;
-use running::throwing::Gone;
 
-// 0: on in a call at its depth; else the number of an end, with what is returned or the class that is not caught.
-#[derive(Clone, Copy)]
-pub struct Moved {
-    pub end: u32,
-    pub value: u32,
-    pub depth: usize,
-    pub call: Frame,
-    pub used: u32,
-}
-
-pub fn ended(end: u32, value: u32, d: usize, k: Frame, used: u32) -> Moved
-    ensures { result ≡ record { end = end; value = value; depth = d; call = k; used = used } }
+// The heap is used as far as before.
+pub fn onto(r: Going, used: u32) -> Result<Moved, Halt>
+    ensures { result ≡ going_on used r }
 {
-    Moved {
-        end,
-        value,
-        depth: d,
-        call: k,
-        used,
+    match r {
+        Ok(r) => Ok(Moved {
+            depth: r.depth,
+            call: r.call,
+            used,
+        }),
+        Err(h) => Err(h),
     }
 }
 
-// Heap full, depth full, or stuck.
-pub fn stop(end: u32, d: usize, k: Frame, used: u32) -> Moved
-    ensures { Stops end used result }
+// What is returned, as a cell.
+fn cell(v: Option<Value>) -> u32
+    ensures { result ≡ cell_of v }
 {
-    if end == Turn::HEAP_FULL {
-        return ended(4, 0, d, k, used);
+    match v {
+        Some(v) => v.to_cell(),
+        None => 0,
     }
-    if end == Turn::DEPTH_FULL {
-        return ended(5, 0, d, k, used);
-    }
-    ended(6, 0, d, k, used)
 }
 
-// An object of class c was thrown.
-pub fn gone(r: Gone, c: u32, d: usize, k: Frame, used: u32) -> Moved
-    ensures { Thrown c used r result }
-{
-    if r.end == 0 {
-        return ended(0, 0, r.depth, r.call, r.used);
-    }
-    if r.end == 2 {
-        return ended(2, c, d, k, r.used);
-    }
-    stop(r.end, d, k, used)
-}
-
-pub fn given(r: Left, d: usize, k: Frame, used: u32) -> Moved
+pub fn given(r: Option<Left>, used: u32) -> Move
     ensures { Given used r result }
 {
-    let going = r.going;
-    let value = r.value;
-    if going.end == 0 {
-        return ended(0, 0, going.depth, going.call, used);
+    let Some(left) = r else {
+        return Err(Ended {
+            end: End::Stuck,
+            used,
+        });
+    };
+    match left {
+        Left::Back(r) => Ok(Moved {
+            depth: r.depth,
+            call: r.call,
+            used,
+        }),
+        Left::Out(v) => Err(Ended {
+            end: End::Returned(cell(v)),
+            used,
+        }),
     }
-    if going.end == 1 {
-        return ended(1, value.to_cell(), d, k, used);
-    }
-    stop(going.end, d, k, used)
 }
 
-// A fault of class c.
-fn faulted(
-    b: &[u8],
-    t: &[u8],
-    cells: &mut [u32],
-    s: &mut [u32],
-    g: &mut [u8],
-    n: usize,
-    d: usize,
-    k: Frame,
-    used: u32,
-    c: u32,
-) -> Moved
-    requires { Standing b.now n t.now s.old g.old d k × (length cells.old ≤ max_heap) }
-    ensures { Faulted b.now n t.now s.old g.old cells.old s.new g.new cells.new d k used c result }
-{
-    let r = throwing::fault(b, t, cells, s, g, n, d, k, used, c);
-    gone(r, c, d, k, used)
-}
-
-// An answer that goes on as said, is a fault of class c, or stops.
+// On as said, or what the halt comes to.
 pub fn after(
     b: &[u8],
     t: &[u8],
@@ -103,18 +67,13 @@ pub fn after(
     d: usize,
     k: Frame,
     used: u32,
-    end: u32,
-    c: u32,
-    on: Moved,
-) -> Moved
-    requires { Lands b.now n t.now s.old g.old cells.old d k end }
-    ensures { After b.now n t.now s.old g.old cells.old s.new g.new cells.new d k used end c on result }
+    r: Result<Moved, Halt>,
+) -> Move
+    requires { Lands b.now n t.now s.old g.old cells.old d k r }
+    ensures { After b.now n t.now s.old g.old cells.old s.new g.new cells.new d k used r result }
 {
-    if end == Turn::ON {
-        return on;
+    match r {
+        Ok(m) => Ok(m),
+        Err(h) => throwing::halted(b, t, cells, s, g, n, d, k, used, h),
     }
-    if end == Turn::FAULT {
-        return faulted(b, t, cells, s, g, n, d, k, used, c);
-    }
-    stop(end, d, k, used)
 }

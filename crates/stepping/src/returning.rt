@@ -1,5 +1,4 @@
 // The instructions that return a value.
-ghost use Rattle.std.specs.Prelude.{◌≡◌, cond, not};
 ghost use Rattle.running.specs.Standing.{Standing};
 ghost use Rattle.running.specs.Leaving.{Leaves, return_value_by};
 
@@ -12,16 +11,7 @@ use rules::types::Kin;
 use running::leaving::Left;
 use running::{leaving, popping};
 
-fn is_kind(ints: bool, q: bool) -> bool
-    ensures { result ≡ cond ints q (not q) }
-{
-    if ints {
-        return q;
-    }
-    !q
-}
-
-// The instruction ireturn, or areturn.
+// The instruction ireturn, or areturn; nothing where it is stuck.
 pub fn leave_with(
     b: &[u8],
     t: &[u8],
@@ -32,21 +22,21 @@ pub fn leave_with(
     d: usize,
     k: Frame,
     ints: bool,
-) -> Left
+) -> Option<Left>
     requires { Standing b.now x.classes t.now s.old g.old d k }
     ensures { Leaves b.now x.classes t.now s.old g.old cells.now s.new g.new d k result (return_value_by b.now x.classes t.now s.old g.old d k ints) }
 {
     let e = 64 * (k.class as usize - 11) + k.method as usize;
     let c = types::result_at(&t[0..187008], e);
     if c == 256 {
-        return leaving::stuck(d, k);
+        return None;
     }
     let asked = values::described(codes::described(c as u8));
-    if !is_kind(ints, asked.is_int()) {
-        return leaving::stuck(d, k);
+    if ints != asked.is_int() {
+        return None;
     }
     if k.operands == 0 {
-        return leaving::stuck(d, k);
+        return None;
     }
     let v = popping::operand(s, g, d, k.operands as usize - 1);
     let kin = Kin {
@@ -54,7 +44,7 @@ pub fn leave_with(
         count: 11 + x.classes,
     };
     if !values::value_fits(&t[0..187008], kin, cells, v, asked) {
-        return leaving::stuck(d, k);
+        return None;
     }
     leaving::give(b, t, s, g, cells, x, d, k, v)
 }

@@ -6,11 +6,11 @@ ghost use Rattle.running.specs.Sending.{CallReady};
 ghost use Rattle.stepping.specs.Moves.{Does, executed};
 
 use crate::moves;
-use crate::moves::Moved;
 use plain::frames::Frame;
 use rules::instruction::Call;
 use rules::site::Site;
 use running::calling;
+use running::ends::Move;
 
 // Into the method, or why not.
 pub fn call(
@@ -24,11 +24,21 @@ pub fn call(
     k: Frame,
     used: u32,
     i: Call,
-) -> Moved
+) -> Move
     requires { CallReady b.now t.old s.old g.old x d k i × (length cells.old ≤ max_heap) }
     ensures { Does b.now x.classes t.old s.old g.old cells.old d k used t.new s.new g.new cells.new result (executed b.now x.classes t.old s.old g.old cells.old used d k 3 (call_of i)) }
 {
     let r = calling::call(b, t, s, g, cells, x, d, k, i);
-    let on = moves::ended(0, 0, r.depth, r.call, used);
-    moves::after(b, t, cells, s, g, x.classes, d, k, used, r.end, 10, on)
+    moves::after(
+        b,
+        t,
+        cells,
+        s,
+        g,
+        x.classes,
+        d,
+        k,
+        used,
+        moves::onto(r, used),
+    )
 }

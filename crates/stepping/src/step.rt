@@ -12,13 +12,13 @@ ghost use Rattle.stepping.specs.Windowed.{Before};
 ghost use Rattle.stepping.specs.Callable.{Callable};
 ghost use Rattle.stepping.specs.Fetching.{Ready};
 
-use crate::moves::Moved;
-use crate::{leave, moves, sending, windowed};
+use crate::{leave, sending, windowed};
 use plain::frames::Frame;
 use rules::decode;
 use rules::instruction::Instr;
 use rules::opcodes::size_at;
 use rules::site::Site;
+use running::ends::{End, Ended, Move};
 
 // The instruction i of z bytes.
 fn one(
@@ -33,7 +33,7 @@ fn one(
     used: u32,
     z: usize,
     i: Instr,
-) -> Moved
+) -> Move
     requires { Before b.now t.old s.old g.old cells.old x d k z × Ready b.now t.old s.old g.old x d k z i }
     ensures { Does b.now x.classes t.old s.old g.old cells.old d k used t.new s.new g.new cells.new result (executed b.now x.classes t.old s.old g.old cells.old used d k z (instr_of i)) }
 {
@@ -45,8 +45,14 @@ fn one(
         Instr::Leaving(j) => leave::leave(b, t, cells, s, g, x, d, k, used, z, j),
         Instr::New(j) => windowed::make(b, t, cells, s, g, x, d, k, used, z, j),
         Instr::Calling(j) => sending::call(b, t, cells, s, g, x, d, k, used, j),
-        Instr::Illegal => moves::stop(6, d, k, used),
-        Instr::Unresolved => moves::stop(6, d, k, used),
+        Instr::Illegal => Err(Ended {
+            end: End::Stuck,
+            used,
+        }),
+        Instr::Unresolved => Err(Ended {
+            end: End::Stuck,
+            used,
+        }),
     }
 }
 
@@ -62,7 +68,7 @@ pub fn step_at(
     d: usize,
     k: Frame,
     used: u32,
-) -> Moved
+) -> Move
     requires { Standing b.now n t.old s.old g.old d k × Dispatch b.now n t.old × (length cells.old ≤ max_heap) × Callable b.now n t.old × Located b.now n (k.class - 11) k.method x (front t.old) }
     ensures { Stepped b.now n t.old s.old g.old cells.old d k used t.new s.new g.new cells.new result }
 {
@@ -71,7 +77,10 @@ pub fn step_at(
     let code = &b[from..to];
     let o = k.offset as usize;
     if code.len() <= o {
-        return moves::stop(6, d, k, used);
+        return Err(Ended {
+            end: End::Stuck,
+            used,
+        });
     }
     let i = decode::fetch(b, t, x.class, code, o);
     let z = size_at(code, o);

@@ -3,18 +3,19 @@ ghost use Rattle.std.specs.Prelude.{◌≡◌, ◌+◌, ◌<◌, ◌≤◌};
 ghost use Rattle.rules.specs.InstructionWords.{plain_of, branch_of, local_of, stack_of};
 ghost use Rattle.rules.specs.Instruction.{new};
 ghost use Rattle.stepping.specs.Turning.{Stays};
-ghost use Rattle.stepping.specs.Moves.{Does, executed, onward};
-ghost use Rattle.stepping.specs.Windowed.{Before, place_of, after_of};
+ghost use Rattle.stepping.specs.Moves.{Does, executed};
+ghost use Rattle.plain.specs.Windows.{operands_of};
+ghost use Rattle.stepping.specs.Windowed.{Before, place_of, turn_on};
 
 use crate::moves;
-use crate::moves::Moved;
 use plain::frames::Frame;
-use plain::window::{Place, Turn};
+use plain::window::{Halt, Place, Turn};
 use plain::{groups, memory};
 use reader::access;
 use rules::instruction::{Branch, Local, Plain, Stack};
 use rules::site::Site;
 use rules::types::Kin;
+use running::ends::{Move, Moved};
 
 // Before an instruction of z bytes.
 fn place(x: Site, k: Frame, used: u32, z: usize) -> Place
@@ -31,19 +32,25 @@ fn place(x: Site, k: Frame, used: u32, z: usize) -> Place
 }
 
 // The call k where a turn of its window goes on.
-fn onto(d: usize, k: Frame, r: Turn) -> Moved
-    requires { r.operands ≤ 32 }
-    ensures { result ≡ onward d (after_of k r) r.used }
+fn onto(d: usize, k: Frame, r: Turn) -> Result<Moved, Halt>
+    requires { operands_of r ≤ 32 }
+    ensures { result ≡ turn_on d k r }
 {
-    let call = Frame {
-        class: k.class,
-        method: k.method,
-        offset: r.at,
-        own: k.own,
-        operands: r.operands as u32,
-        locals: k.locals,
-    };
-    moves::ended(0, 0, d, call, r.used)
+    match r {
+        Ok(r) => Ok(Moved {
+            depth: d,
+            call: Frame {
+                class: k.class,
+                method: k.method,
+                offset: r.at,
+                own: k.own,
+                operands: r.operands as u32,
+                locals: k.locals,
+            },
+            used: r.used,
+        }),
+        Err(h) => Err(h),
+    }
 }
 
 pub fn simple(
@@ -58,7 +65,7 @@ pub fn simple(
     used: u32,
     z: usize,
     i: Plain,
-) -> Moved
+) -> Move
     requires { Before b.now t.now s.old g.old cells.old x d k z }
     ensures { Does b.now x.classes t.now s.old g.old cells.old d k used t.now s.new g.new cells.new result (executed b.now x.classes t.now s.old g.old cells.old used d k z (plain_of i)) }
 {
@@ -77,20 +84,7 @@ pub fn simple(
         c,
         i,
     );
-    moves::after(
-        b,
-        t,
-        cells,
-        s,
-        g,
-        x.classes,
-        d,
-        k,
-        used,
-        r.end,
-        r.at,
-        onto(d, k, r),
-    )
+    moves::after(b, t, cells, s, g, x.classes, d, k, used, onto(d, k, r))
 }
 
 pub fn jump(
@@ -105,7 +99,7 @@ pub fn jump(
     used: u32,
     z: usize,
     i: Branch,
-) -> Moved
+) -> Move
     requires { Before b.now t.now s.old g.old cells.old x d k z × Stays (branch_of i) }
     ensures { Does b.now x.classes t.now s.old g.old cells.old d k used t.now s.new g.new cells.new result (executed b.now x.classes t.now s.old g.old cells.old used d k z (branch_of i)) }
 {
@@ -124,20 +118,7 @@ pub fn jump(
         c,
         i,
     );
-    moves::after(
-        b,
-        t,
-        cells,
-        s,
-        g,
-        x.classes,
-        d,
-        k,
-        used,
-        r.end,
-        r.at,
-        onto(d, k, r),
-    )
+    moves::after(b, t, cells, s, g, x.classes, d, k, used, onto(d, k, r))
 }
 
 pub fn on_local(
@@ -152,27 +133,14 @@ pub fn on_local(
     used: u32,
     z: usize,
     i: Local,
-) -> Moved
+) -> Move
     requires { Before b.now t.now s.old g.old cells.old x d k z }
     ensures { Does b.now x.classes t.now s.old g.old cells.old d k used t.now s.new g.new cells.new result (executed b.now x.classes t.now s.old g.old cells.old used d k z (local_of i)) }
 {
     let c = place(x, k, used, z);
     let a = 64 * d;
     let r = groups::on_local(&mut s[a..a + 64], &mut g[a..a + 64], c, i);
-    moves::after(
-        b,
-        t,
-        cells,
-        s,
-        g,
-        x.classes,
-        d,
-        k,
-        used,
-        r.end,
-        r.at,
-        onto(d, k, r),
-    )
+    moves::after(b, t, cells, s, g, x.classes, d, k, used, onto(d, k, r))
 }
 
 pub fn on_stack(
@@ -187,7 +155,7 @@ pub fn on_stack(
     used: u32,
     z: usize,
     i: Stack,
-) -> Moved
+) -> Move
     requires { Before b.now t.now s.old g.old cells.old x d k z }
     ensures { Does b.now x.classes t.now s.old g.old cells.old d k used t.now s.new g.new cells.new result (executed b.now x.classes t.now s.old g.old cells.old used d k z (stack_of i)) }
 {
@@ -206,20 +174,7 @@ pub fn on_stack(
         c,
         i,
     );
-    moves::after(
-        b,
-        t,
-        cells,
-        s,
-        g,
-        x.classes,
-        d,
-        k,
-        used,
-        r.end,
-        r.at,
-        onto(d, k, r),
-    )
+    moves::after(b, t, cells, s, g, x.classes, d, k, used, onto(d, k, r))
 }
 
 pub fn make(
@@ -234,7 +189,7 @@ pub fn make(
     used: u32,
     z: usize,
     i: u16,
-) -> Moved
+) -> Move
     requires { Before b.now t.now s.old g.old cells.old x d k z }
     ensures { Does b.now x.classes t.now s.old g.old cells.old d k used t.now s.new g.new cells.new result (executed b.now x.classes t.now s.old g.old cells.old used d k z (new i)) }
 {
@@ -249,18 +204,5 @@ pub fn make(
         i,
         size as u32,
     );
-    moves::after(
-        b,
-        t,
-        cells,
-        s,
-        g,
-        x.classes,
-        d,
-        k,
-        used,
-        r.end,
-        r.at,
-        onto(d, k, r),
-    )
+    moves::after(b, t, cells, s, g, x.classes, d, k, used, onto(d, k, r))
 }

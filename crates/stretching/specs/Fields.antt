@@ -1,7 +1,6 @@
 -- What is of just the type that is asked fits there, whatever the classes' parents are. Assumes nothing.
 use Rattle.std.specs.Prelude.{ℕ, suc, ◌+◌, ◌-◌, ◌<◌, ◌≡◌, Bool, true, false, not, List, eqb, get_or}
-use Rattle.std.proofs.Math.Path.{refl}
-use Rattle.std.proofs.Common.{sym, subst, ◌∙◌, arith, eqb-true}
+use Rattle.std.proofs.Common.{sym, subst, ◌∙◌, arith, eqb-true, refl}
 use Rattle.classfiles.specs.Descriptors.{Ref, cls, arr, Desc, dint, dref}
 use Rattle.reader.specs.Program.{Program, class_count, below}
 use Rattle.rules.specs.Types.{ref_fits, desc_fits, is_dint}
@@ -13,7 +12,7 @@ use Rattle.plain.specs.HeapTurns.{Steps, guard_so, if_some}
 use Rattle.plain.specs.HeapForms.{reaching}
 use Rattle.plain.specs.Turns.{holds_so}
 use Rattle.plain.specs.declared.window.Place.{Place}
-use Rattle.plain.specs.declared.window.Turn.{Turn}
+use Rattle.plain.specs.Windows.{Turn}
 
 -- in every program
 pub record Fits (cells : List ℕ) (D : Desc) (v : Val) : Type 0 where

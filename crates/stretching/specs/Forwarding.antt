@@ -1,9 +1,7 @@
 -- The running call, as far as its instructions stay in its window, as so many steps of the run. Assumes nothing.
-use Prim.Native.Nat.{ℕ, ◌+◌, ◌-◌, ◌*◌, ◌≤◌}
 use Rattle.std.specs.Prelude.{◌≡◌, refl, length, get_or, take, drop}
-use Rattle.std.proofs.Math.Path.{sym, ap, fun_ext}
-use Rattle.std.proofs.Common.{subst, ◌∙◌, arith, length-drop, length-take-le}
-use mathlib.Core.List.{List}
+use Rattle.std.proofs.Math.Path.{fun_ext}
+use Rattle.std.proofs.Common.{subst, ◌∙◌, arith, length-drop, length-take-le, ℕ, ◌+◌, ◌-◌, ◌*◌, ◌≤◌, sym, ap, List}
 use Rattle.kit.specs.Lists.{length_part}
 use Rattle.classfiles.specs.Limits.{max_heap}
 use Rattle.texts.specs.Reading.{part}

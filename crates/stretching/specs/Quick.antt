@@ -1,7 +1,6 @@
 -- An instruction of one window by its opcode: where it goes on, it does what the definitions say of the instruction that stands there. Assumes nothing.
-use Rattle.std.specs.Prelude.{ℕ, ◌+◌, ◌*◌, ◌%◌, ◌<◌, ◌≤◌, ◌≡◌, refl, List, length, get_or}
-use Rattle.std.proofs.Common.{sym, ◌∙◌, arith}
-use Rattle.std.proofs.Math.Path.{ap, subst}
+use Rattle.std.specs.Prelude.{Ok, Err, IfOk, OnErr, ℕ, ◌+◌, ◌*◌, ◌%◌, ◌<◌, ◌≤◌, ◌≡◌, refl, List, length, get_or}
+use Rattle.std.proofs.Common.{sym, ◌∙◌, arith, ap, subst}
 use Rattle.classfiles.specs.Limits.{max_heap}
 use Rattle.reader.specs.Program.{Program}
 use Rattle.rules.specs.Instruction.{Instr, getfield, putfield}
@@ -15,11 +14,12 @@ use Rattle.rules.specs.declared.instruction.Field.{Field}
 use Rattle.rules.specs.declared.types.Kin.{Kin}
 use Rattle.plain.specs.Machine.{Here}
 use Rattle.plain.specs.Step.{execute}
-use Rattle.plain.specs.Windows.{ops_of, turn_of, Sized, Stands}
+use Rattle.plain.specs.Windows.{Turn, ops_of, operands_of, turn_of, Sized, Stands}
 use Rattle.plain.specs.WindowForms.{doing}
 use Rattle.plain.specs.HeapTurns.{Steps}
 use Rattle.plain.specs.declared.window.Place.{Place}
-use Rattle.plain.specs.declared.window.Turn.{Turn}
+use Rattle.plain.specs.declared.window.Onward.{Onward}
+use Rattle.plain.specs.declared.window.Halt.{Halt}
 use Rattle.stepping.specs.Turning.{Stays, turn_low}
 use Rattle.stretching.specs.declared.quick.Ground.{Ground}
 
@@ -57,38 +57,27 @@ abbrev pub made_at : List ℕ → List ℕ → ℕ → List ℕ → ℕ → Prog
 made_at b t c code o P = made P (resolved_in b t c) (get_or code o 0) (get_or code (o + 1) 0) (get_or code (o + 2) 0) o
 
 -- on, as in each context that stands there
-pub record Moves (b t code : List ℕ) (y : Ground) (at n : ℕ) (w g w' g' cells' : List ℕ) (r : Turn) (P : Program) (x : Here) : Type 0 where
-  pub is : turn_of P x y.locals w' g' cells' r ≡ execute P x (ops_of w g n) (made_at b t y.class code at P)
+pub record Moves (b t code : List ℕ) (y : Ground) (at n : ℕ) (w g w' g' cells' : List ℕ) (r : Onward) (P : Program) (x : Here) : Type 0 where
+  pub is : turn_of P x y.locals w' g' cells' (Ok r) ≡ execute P x (ops_of w g n) (made_at b t y.class code at P)
   pub operands : r.operands ≤ y.most
   pub offset : r.at < 65536
 
 pub record Quick (b t code : List ℕ) (y : Ground) (at n used : ℕ) (w g cells w' g' cells' : List ℕ) (r : Turn) : Type 0 where
-  pub on : r.end ≡ 0 → (P : Program) (x : Here) → Known t y P → Stands P x (place_at y at n used (size_at code at)) w g cells → at + 3 < 65536
-      → Moves b t code y at n w g w' g' cells' r P x
-  pub kept : (r.end ≡ 0 → ⊥) → (w' ≡ w) × (g' ≡ g) × (cells' ≡ cells)
-  pub room : r.operands ≤ 32
+  pub on : IfOk r (λ o. (P : Program) (x : Here) → Known t y P → Stands P x (place_at y at n used (size_at code at)) w g cells → at + 3 < 65536
+      → Moves b t code y at n w g w' g' cells' o P x)
+  pub kept : OnErr r ((w' ≡ w) × (g' ≡ g) × (cells' ≡ cells))
+  pub room : operands_of r ≤ 32
 
 module _ (b t code : List ℕ) (y : Ground) (at n used : ℕ) (w g cells : List ℕ) where
-  pub quick_elsewhere : (r : Turn) → r.end ≡ 6 → r.operands ≡ 0 → Quick b t code y at n used w g cells w g cells r
-  quick_elsewhere r e z = record { on = λ q. absurd (omega arith); kept = λ q. (refl, refl, refl); room = omega arith }
+  pub quick_elsewhere : (h : Halt) → Quick b t code y at n used w g cells w g cells (Err h)
+  quick_elsewhere h = record { on = tt; kept = (refl, refl, refl); room = omega arith }
 
   module _ (z : ℕ) (I : Instr) (k : Kin) (c : Place) (w' g' cells' : List ℕ) (r : Turn) where
     -- by a form of the instruction that it is
     pub quick_by : size_at code at ≡ z → z < 4 → Stays I → ((P : Program) → Known t y P → made_at b t y.class code at P ≡ I) → k ≡ kin_of y → c ≡ place_at y at n used z
         → Steps (λ P. Parents P t k.at k.count) c w g cells w' g' cells' r (doing w g c.operands I) → Quick b t code y at n used w g cells w' g' cells' r
     unfolding doing
-    quick_by ez lz low m ek ec h = record {
-      on = λ q P x known stands short.
-          let s : Stands P x (place_at y at n used z) w g cells = subst (λ (i : ℕ). Stands P x (place_at y at n used i) w g cells) ez stands in
-          let u = turn_low P x I low (omega (arith, s.after, short, lz)) K p w g cells w' g' cells' r h' known.kin s q in
-          record {
-            is = h'.is P x known.kin s ∙ ap (λ (J : Instr). execute P x (ops_of w g n) J) (sym (m P known));
-            operands = u.0;
-            offset = u.1;
-          };
-      kept = h.kept;
-      room = h.room;
-    }
+    quick_by ez lz low m ek ec h = record { on = on r h'; kept = kept r h'; room = h.room }
       where
         K : Program → Type 0
         K P = Parents P t 25728 y.count
@@ -100,6 +89,22 @@ module _ (b t code : List ℕ) (y : Ground) (at n used : ℕ) (w g cells : List 
         h' =
             subst (λ (a : Place). Steps (λ P. Parents P t 25728 y.count) a w g cells w' g' cells' r (doing w g a.operands I)) ec
             (subst (λ (j : Kin). Steps (λ P. Parents P t j.at j.count) c w g cells w' g' cells' r (doing w g c.operands I)) ek h)
+
+        on : (r : Turn) → Steps K p w g cells w' g' cells' r (doing w g n I)
+            → IfOk r (λ o. (P : Program) (x : Here) → Known t y P → Stands P x (place_at y at n used (size_at code at)) w g cells → at + 3 < 65536 → Moves b t code y at n w g w' g' cells' o P x)
+        on (Err i) k = tt
+        on (Ok o) k = λ P x known stands short.
+            let s : Stands P x (place_at y at n used z) w g cells = subst (λ (i : ℕ). Stands P x (place_at y at n used i) w g cells) ez stands in
+            let u = turn_low P x I low (omega (arith, s.after, short, lz)) K p w g cells w' g' cells' o k known.kin s in
+            record {
+              is = k.is P x known.kin s ∙ ap (λ (J : Instr). execute P x (ops_of w g n) J) (sym (m P known));
+              operands = u.0;
+              offset = u.1;
+            }
+
+        kept : (r : Turn) → Steps K p w g cells w' g' cells' r (doing w g n I) → OnErr r ((w' ≡ w) × (g' ≡ g) × (cells' ≡ cells))
+        kept (Ok o) k = tt
+        kept (Err i) k = k.kept i refl
 
     -- by its opcode
     pub quick_arm : (v : ℕ) → get_or code at 0 ≡ v → length_of (row_of v) ≡ z → z < 4 → Stays I

@@ -1,8 +1,6 @@
 -- A stretch of steps that stay in one window, as so many steps of the plain machine. Assumes nothing.
-use Rattle.std.specs.Prelude.{ℕ, zero, suc, ◌+◌, ◌-◌, ◌<◌, ◌≤◌, ◌≡◌, refl, List, length}
-use Rattle.std.proofs.Common.{sym, ◌∙◌, arith}
-use Rattle.std.proofs.Math.Path.{ap}
-use borrow.Author.Tests.{lt-ltb}
+use Rattle.std.specs.Prelude.{Ok, Err, OnErr, ℕ, zero, suc, ◌+◌, ◌-◌, ◌<◌, ◌≤◌, ◌≡◌, refl, List, length}
+use Rattle.std.proofs.Common.{sym, ◌∙◌, arith, ap, lt-ltb}
 use Rattle.classfiles.specs.Limits.{max_heap}
 use Rattle.reader.specs.Program.{Program, method}
 use Rattle.rules.specs.Opcodes.{body, code_of, size_at, instruction}
@@ -10,8 +8,8 @@ use Rattle.plain.specs.Heap.{heap}
 use Rattle.plain.specs.Machine.{Call, call, Machine, machine, heap_of, Result, next, Here}
 use Rattle.plain.specs.Step.{step}
 use Rattle.plain.specs.Run.{turn, run}
-use Rattle.plain.specs.Windows.{locs_of, ops_of, Stands}
-use Rattle.plain.specs.declared.window.Turn.{Turn}
+use Rattle.plain.specs.Windows.{Turn, locs_of, ops_of, Stands}
+use Rattle.plain.specs.declared.window.Onward.{Onward}
 use Rattle.stretching.specs.Quick.{Ready, Known, Moves, Quick, place_at, made_at}
 use Rattle.stretching.specs.declared.quick.Ground.{Ground}
 use Rattle.stretching.specs.declared.stretch.Spot.{Spot}
@@ -63,7 +61,7 @@ pub record Stretched (b t code : List ℕ) (y : Ground) (from : Spot) (w g cells
   pub left : q.left ≤ from.left
   pub room : q.operands ≤ 32
 
-pub stretch_start : (b t code : List ℕ) (y : Ground) (from : Spot) (w g cells : List ℕ) → from.operands ≤ 32 → Stretched b t code y from w g cells w g cells from
+stretch_start : (b t code : List ℕ) (y : Ground) (from : Spot) (w g cells : List ℕ) → from.operands ≤ 32 → Stretched b t code y from w g cells w g cells from
 stretch_start b t code y from w g cells h = record {
   reached = λ P c j self ks f low. record {
     is = λ m. let e : m + (from.left - from.left) ≡ m = omega arith in ap (λ (i : ℕ). run P from.left i (machine_at y c j self ks from w g cells)) (sym e);
@@ -73,6 +71,10 @@ stretch_start b t code y from w g cells h = record {
   room = h;
 }
 
+pub stretch_begin : (b t code : List ℕ) (y : Ground) (from : Spot) (w g cells : List ℕ) → from.operands ≤ 32
+    → Stretched b t code y from w g cells w g cells (record { at = from.at; operands = from.operands; used = from.used; left = from.left - 0 })
+stretch_begin b t code y from w g cells h = let e : from.left - 0 ≡ from.left = omega arith in rw e (stretch_start b t code y from w g cells h)
+
 -- a step of a run that has some left
 pub run-turn : (P : Program) (left m : ℕ) (K : Machine) → 0 < left → run P left m K ≡ turn (step P K) m (heap_of K) (λ (L : Machine). run P (left - 1) (suc m) L)
 unfolding run
@@ -81,8 +83,8 @@ run-turn P (suc left) m K h =
     let z : suc left - 1 ≡ left = omega arith in
     rw z
 
-module _ (b t code : List ℕ) (y : Ground) (w g cells w' g' cells' : List ℕ) (at n used : ℕ) (r : Turn) (short : length code ≤ 4096) (here : at < length code) (on : r.end ≡ 0)
-    (h : Quick b t code y at n used w g cells w' g' cells' r) (P : Program) (c j self : ℕ) (ks : List Call) (f : Fetches b t code y P c j) where
+module _ (b t code : List ℕ) (y : Ground) (w g cells w' g' cells' : List ℕ) (at n used : ℕ) (r : Onward) (short : length code ≤ 4096) (here : at < length code)
+    (h : Quick b t code y at n used w g cells w' g' cells' (Ok r)) (P : Program) (c j self : ℕ) (ks : List Call) (f : Fetches b t code y P c j) where
   abbrev X : Here
   X = record {
     heap = heap cells used;
@@ -105,13 +107,13 @@ module _ (b t code : List ℕ) (y : Ground) (w g cells w' g' cells' : List ℕ) 
   stands = record { heap = refl; locals = refl; after = refl; most = f.most }
 
   moves : Moves b t code y at n w g w' g' cells' r P X
-  moves = h.on on P X f.known stands (omega arith)
+  moves = h.on P X f.known stands (omega arith)
 
   steps_to : step P before ≡ next after
   unfolding step
   steps_to =
       let q = lt-ltb at (length code) here in
-      rw (f.code_is, q, f.made at here) (sym moves.is ∙ rw on)
+      rw (f.code_is, q, f.made at here) (sym moves.is)
 
   pub one_more : (left m : ℕ) → 0 < left → run P left m before ≡ run P (left - 1) (suc m) after
   unfolding turn
@@ -120,17 +122,17 @@ module _ (b t code : List ℕ) (y : Ground) (w g cells w' g' cells' : List ℕ) 
   pub still_low : (r.operands ≤ y.most) × (r.at < 65536)
   still_low = (moves.operands, moves.offset)
 
-pub stretch_next : (b t code : List ℕ) (y : Ground) (from : Spot) (w₀ g₀ cells₀ w g cells w' g' cells' : List ℕ) (at n used left : ℕ) (r : Turn) → length code ≤ 4096 → at < length code → 0 < left
-    → Stretched b t code y from w₀ g₀ cells₀ w g cells (record { at = at; operands = n; used = used; left = left }) → r.end ≡ 0 → Quick b t code y at n used w g cells w' g' cells' r
+pub stretch_next : (b t code : List ℕ) (y : Ground) (from : Spot) (w₀ g₀ cells₀ w g cells w' g' cells' : List ℕ) (at n used left : ℕ) (r : Onward) → length code ≤ 4096 → at < length code → 0 < left
+    → Stretched b t code y from w₀ g₀ cells₀ w g cells (record { at = at; operands = n; used = used; left = left }) → Quick b t code y at n used w g cells w' g' cells' (Ok r)
     → Stretched b t code y from w₀ g₀ cells₀ w' g' cells' (record { at = r.at; operands = r.operands; used = r.used; left = left - 1 })
-stretch_next b t code y from w₀ g₀ cells₀ w g cells w' g' cells' at n used left r short here l s on h = record {
+stretch_next b t code y from w₀ g₀ cells₀ w g cells w' g' cells' at n used left r short here l s h = record {
   reached = λ P c j self ks f low.
       let u = s.reached P c j self ks f low in
-      let v = still_low b t code y w g cells w' g' cells' at n used r short here on h P c j self ks f in
+      let v = still_low b t code y w g cells w' g' cells' at n used r short here h P c j self ks f in
       record {
         is = λ m.
             let e : suc (m + (from.left - left)) ≡ m + (from.left - (left - 1)) = omega (arith, s.left) in
-            u.is m ∙ one_more b t code y w g cells w' g' cells' at n used r short here on h P c j self ks f left (m + (from.left - left)) l
+            u.is m ∙ one_more b t code y w g cells w' g' cells' at n used r short here h P c j self ks f left (m + (from.left - left)) l
             ∙ ap (λ (i : ℕ). run P (left - 1) i (machine (heap cells' r.used) (call c j r.at self (locs_of w' g' y.locals) (ops_of w' g' r.operands)) ks)) e;
         low = record { operands = v.0; offset = v.1 };
       };
@@ -138,7 +140,22 @@ stretch_next b t code y from w₀ g₀ cells₀ w g cells w' g' cells' at n used
   room = h.room;
 }
 
+-- one step fewer is left
+pub stretch_spent : (b t code : List ℕ) (y : Ground) (from : Spot) (w₀ g₀ cells₀ w g cells : List ℕ) (at n used i : ℕ)
+    → Stretched b t code y from w₀ g₀ cells₀ w g cells (record { at = at; operands = n; used = used; left = from.left - i - 1 })
+    → Stretched b t code y from w₀ g₀ cells₀ w g cells (record { at = at; operands = n; used = used; left = from.left - (i + 1) })
+stretch_spent b t code y from w₀ g₀ cells₀ w g cells at n used i h = let e : from.left - (i + 1) ≡ from.left - i - 1 = omega arith in rw e h
+
+pub stretch_over : (b t code : List ℕ) (y : Ground) (from : Spot) (w₀ g₀ cells₀ w g cells : List ℕ) (at n used i : ℕ) → from.left ≤ i
+    → Stretched b t code y from w₀ g₀ cells₀ w g cells (record { at = at; operands = n; used = used; left = from.left - i })
+    → Stretched b t code y from w₀ g₀ cells₀ w g cells (record { at = at; operands = n; used = used; left = 0 })
+stretch_over b t code y from w₀ g₀ cells₀ w g cells at n used i l h = let e : 0 ≡ from.left - i = omega arith in rw e h
+
 -- an instruction that did nothing
+pub kept_stop : (r : Turn) (A : Type 0) → ((o : Onward) → r ≡ Ok o → ⊥) → OnErr r A → A
+kept_stop (Ok o) A h k = absurd (h o refl)
+kept_stop (Err i) A h k = k
+
 pub stretch_stop : (b t code : List ℕ) (y : Ground) (from : Spot) (w₀ g₀ cells₀ w g cells w' g' cells' : List ℕ) (q : Spot) → Stretched b t code y from w₀ g₀ cells₀ w g cells q
     → (w' ≡ w) × (g' ≡ g) × (cells' ≡ cells) → Stretched b t code y from w₀ g₀ cells₀ w' g' cells' q
 stretch_stop b t code y from w₀ g₀ cells₀ w g cells w' g' cells' q h e = rw (e.0, e.1, e.2) h

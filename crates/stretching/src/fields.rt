@@ -14,7 +14,7 @@ ghost use Rattle.plain.specs.HeapTurns.{Steps};
 ghost use Rattle.stretching.specs.Fields.{Fits};
 
 use plain::values::{self, RunType, Value};
-use plain::window::{self, Place, Turn};
+use plain::window::{self, Halt, Onward, Place, Turn};
 use plain::{heap, memory};
 use rules::instruction::Field;
 use rules::types::Kin;
@@ -74,7 +74,7 @@ pub fn getfield(
     ensures { Steps (λ P. Parents P t.now kin.at kin.count) c w.old g.old cells.now w.new g.new cells.now result (doing w.old g.old c.operands (getfield (words.field_of f))) }
 {
     if c.operands < 1 {
-        return window::stuck(c);
+        return Err(Halt::Stuck);
     }
     let i = 31 + c.operands;
     let v = Value {
@@ -90,7 +90,7 @@ pub fn getfield(
     }
     let a = heap::element(cells, v.to_cell() - 1, f.slot as u32);
     let x = Value::from_cell(values::described(f.of), a);
-    window::push(w, g, window::lowered(c, 1), x)
+    window::push(w, g, c.lowered(1), x)
 }
 
 // Whether v refers to an object of just the class that f names, and x fits there.
@@ -107,6 +107,18 @@ fn takes_just(cells: &[u32], v: Value, x: Value, f: Field) -> bool
     fits_just(cells, x, values::described(f.of))
 }
 
+// As `memory` does it, with the answer taken apart: a call writes its answer to memory, and what is answered at once would be written there
+// too.
+fn put_apart(t: &[u8], kin: Kin, cells: &mut [u32], w: &[u32], g: &[u8], c: Place, f: Field) -> Turn
+    requires { Sized c w.now g.now × (length cells.old ≤ max_heap) }
+    ensures { Steps (λ P. Parents P t.now kin.at kin.count) c w.now g.now cells.old w.now g.now cells.new result (doing w.now g.now c.operands (putfield (words.field_of f))) }
+{
+    match memory::putfield(t, kin, cells, w, g, c, f) {
+        Ok(o) => Ok(o),
+        Err(h) => Err(h),
+    }
+}
+
 pub fn putfield(
     t: &[u8],
     kin: Kin,
@@ -120,7 +132,7 @@ pub fn putfield(
     ensures { Steps (λ P. Parents P t.now kin.at kin.count) c w.now g.now cells.old w.now g.now cells.new result (doing w.now g.now c.operands (putfield (words.field_of f))) }
 {
     if c.operands < 2 {
-        return window::stuck(c);
+        return Err(Halt::Stuck);
     }
     let i = 31 + c.operands;
     let x = Value {
@@ -133,17 +145,16 @@ pub fn putfield(
         cell: w[j],
     };
     if !takes_just(cells, v, x, f) {
-        return memory::putfield(t, kin, cells, w, g, c, f);
+        return put_apart(t, kin, cells, w, g, c, f);
     }
     let n = c.operands - 2;
     if c.most < n {
-        return window::stuck(c);
+        return Err(Halt::Stuck);
     }
     heap::set_element(cells, v.to_cell() - 1, f.slot as u32, x.to_cell());
-    Turn {
-        end: Turn::ON,
+    Ok(Onward {
         at: c.after,
         operands: n,
         used: c.used,
-    }
+    })
 }

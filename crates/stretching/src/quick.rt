@@ -1,14 +1,15 @@
-// Instructions of one window by their opcodes. What calls, returns, throws or makes an object is left to a step.
+// Instructions of one window by their opcodes. What calls, returns, throws or makes an object is left to a step: nothing is done, and the
+// halt says no more than that.
 ghost use Rattle.std.specs.Prelude.{◌≡◌, ◌+◌, ◌*◌, ◌%◌, ◌<◌, ◌^◌, length, get_or};
 ghost use Rattle.stretching.specs.Quick.{Quick, Ready, bytes_at, kin_of, place_at};
 ghost use Rattle.rules.specs.ResolvedWords.{word_of};
 
 use crate::fields;
-use plain::window::{Place, Turn};
+use plain::window::{Halt, Place, Turn};
 use plain::{forms, groups, memory};
 use rules::decode;
 use rules::decode::Bytes;
-use rules::instruction::Instr;
+use rules::instruction::{Division, Instr, Op, Test};
 use rules::opcodes::size_at;
 use rules::types::Kin;
 
@@ -40,18 +41,6 @@ fn place(y: Ground, at: u32, operands: usize, used: u32, z: u32) -> Place
         most: y.most,
         locals: y.locals,
         after: at + z,
-        used,
-    }
-}
-
-// Nothing is done.
-fn elsewhere(used: u32) -> Turn
-    ensures { (result.end ≡ 6) × (result.operands ≡ 0) }
-{
-    Turn {
-        end: Turn::STUCK,
-        at: 0,
-        operands: 0,
         used,
     }
 }
@@ -112,7 +101,7 @@ fn get_field(
 {
     let r = named(t, code, y, at);
     if r % 8 != 3 {
-        return elsewhere(used);
+        return Err(Halt::Stuck);
     }
     let c = place(y, at, operands, used, 3);
     fields::getfield(t, kin(y), cells, w, g, c, decode::field(r))
@@ -135,7 +124,7 @@ fn put_field(
 {
     let r = named(t, code, y, at);
     if r % 8 != 3 {
-        return elsewhere(used);
+        return Err(Halt::Stuck);
     }
     let c = place(y, at, operands, used, 3);
     fields::putfield(t, kin(y), cells, w, g, c, decode::field(r))
@@ -160,7 +149,7 @@ fn decoded(
     let o = at as usize;
     let i = decode::instruction(b, t, y.class, code, o);
     let Instr::Simple(j) = i else {
-        return elsewhere(used);
+        return Err(Halt::Stuck);
     };
     let z = size_at(code, o) as u32;
     let c = place(y, at, operands, used, z);
@@ -186,12 +175,12 @@ fn rare(
 {
     match op {
         0x12 | 0xbc | 0xbd | 0xc0 | 0xc1 => decoded(b, t, code, cells, w, g, y, at, operands, used),
-        _ => elsewhere(used),
+        _ => Err(Halt::Stuck),
     }
 }
 
-// Whether two references are the same.
-fn equals(
+// What is compiled as a call: stores of references, and whether two are the same.
+fn called(
     b: &[u8],
     t: &[u8],
     code: &[u8],
@@ -208,6 +197,7 @@ fn equals(
     ensures { Quick b.now t.now code.now y at operands used w.old g.old cells.old w.new g.new cells.new result }
 {
     match op {
+        0x53 => memory::aastore(t, kin(y), cells, w, g, place(y, at, operands, used, 1)),
         0xa5 => memory::if_same(
             t,
             kin(y),
@@ -232,7 +222,31 @@ fn equals(
     }
 }
 
-// Fields, stores of references, tests for null.
+// The same, with the answer taken apart: a call writes its answer to memory, and what the lists that lead here answer would be written there
+// too.
+fn apart(
+    b: &[u8],
+    t: &[u8],
+    code: &[u8],
+    cells: &mut [u32],
+    w: &mut [u32],
+    g: &mut [u8],
+    y: Ground,
+    at: u32,
+    operands: usize,
+    used: u32,
+    op: usize,
+) -> Turn
+    requires { Ready code.now cells.old w.old g.old y at operands × (op ≡ get_or code.now at 0) }
+    ensures { Quick b.now t.now code.now y at operands used w.old g.old cells.old w.new g.new cells.new result }
+{
+    match called(b, t, code, cells, w, g, y, at, operands, used, op) {
+        Ok(o) => Ok(o),
+        Err(h) => Err(h),
+    }
+}
+
+// Fields, tests for null.
 fn others(
     b: &[u8],
     t: &[u8],
@@ -250,7 +264,6 @@ fn others(
     ensures { Quick b.now t.now code.now y at operands used w.old g.old cells.old w.new g.new cells.new result }
 {
     match op {
-        0x53 => memory::aastore(t, kin(y), cells, w, g, place(y, at, operands, used, 1)),
         0xb4 => get_field(b, t, code, cells, w, g, y, at, operands, used),
         0xb5 => put_field(b, t, code, cells, w, g, y, at, operands, used),
         0xc6 => memory::if_null(
@@ -273,7 +286,7 @@ fn others(
             false,
             decode::target(bytes(code, at)),
         ),
-        _ => equals(b, t, code, cells, w, g, y, at, operands, used, op),
+        _ => apart(b, t, code, cells, w, g, y, at, operands, used, op),
     }
 }
 
@@ -295,18 +308,90 @@ fn branches(
     ensures { Quick b.now t.now code.now y at operands used w.old g.old cells.old w.new g.new cells.new result }
 {
     match op {
-        0x99 => forms::if_int(w, g, place(y, at, operands, used, 3), 0, leads_to(code, at)),
-        0x9a => forms::if_int(w, g, place(y, at, operands, used, 3), 1, leads_to(code, at)),
-        0x9b => forms::if_int(w, g, place(y, at, operands, used, 3), 2, leads_to(code, at)),
-        0x9c => forms::if_int(w, g, place(y, at, operands, used, 3), 3, leads_to(code, at)),
-        0x9d => forms::if_int(w, g, place(y, at, operands, used, 3), 4, leads_to(code, at)),
-        0x9e => forms::if_int(w, g, place(y, at, operands, used, 3), 5, leads_to(code, at)),
-        0x9f => forms::if_two(w, g, place(y, at, operands, used, 3), 0, leads_to(code, at)),
-        0xa0 => forms::if_two(w, g, place(y, at, operands, used, 3), 1, leads_to(code, at)),
-        0xa1 => forms::if_two(w, g, place(y, at, operands, used, 3), 2, leads_to(code, at)),
-        0xa2 => forms::if_two(w, g, place(y, at, operands, used, 3), 3, leads_to(code, at)),
-        0xa3 => forms::if_two(w, g, place(y, at, operands, used, 3), 4, leads_to(code, at)),
-        0xa4 => forms::if_two(w, g, place(y, at, operands, used, 3), 5, leads_to(code, at)),
+        0x99 => forms::if_int(
+            w,
+            g,
+            place(y, at, operands, used, 3),
+            Test::Eq,
+            leads_to(code, at),
+        ),
+        0x9a => forms::if_int(
+            w,
+            g,
+            place(y, at, operands, used, 3),
+            Test::Ne,
+            leads_to(code, at),
+        ),
+        0x9b => forms::if_int(
+            w,
+            g,
+            place(y, at, operands, used, 3),
+            Test::Lt,
+            leads_to(code, at),
+        ),
+        0x9c => forms::if_int(
+            w,
+            g,
+            place(y, at, operands, used, 3),
+            Test::Ge,
+            leads_to(code, at),
+        ),
+        0x9d => forms::if_int(
+            w,
+            g,
+            place(y, at, operands, used, 3),
+            Test::Gt,
+            leads_to(code, at),
+        ),
+        0x9e => forms::if_int(
+            w,
+            g,
+            place(y, at, operands, used, 3),
+            Test::Le,
+            leads_to(code, at),
+        ),
+        0x9f => forms::if_two(
+            w,
+            g,
+            place(y, at, operands, used, 3),
+            Test::Eq,
+            leads_to(code, at),
+        ),
+        0xa0 => forms::if_two(
+            w,
+            g,
+            place(y, at, operands, used, 3),
+            Test::Ne,
+            leads_to(code, at),
+        ),
+        0xa1 => forms::if_two(
+            w,
+            g,
+            place(y, at, operands, used, 3),
+            Test::Lt,
+            leads_to(code, at),
+        ),
+        0xa2 => forms::if_two(
+            w,
+            g,
+            place(y, at, operands, used, 3),
+            Test::Ge,
+            leads_to(code, at),
+        ),
+        0xa3 => forms::if_two(
+            w,
+            g,
+            place(y, at, operands, used, 3),
+            Test::Gt,
+            leads_to(code, at),
+        ),
+        0xa4 => forms::if_two(
+            w,
+            g,
+            place(y, at, operands, used, 3),
+            Test::Le,
+            leads_to(code, at),
+        ),
         0xa7 => forms::jump(w, g, place(y, at, operands, used, 3), leads_to(code, at)),
         _ => others(b, t, code, cells, w, g, y, at, operands, used, op),
     }
@@ -334,18 +419,18 @@ fn arithmetic(
         0x59 => forms::dup(w, g, place(y, at, operands, used, 1)),
         0x5a => forms::dup_under(w, g, place(y, at, operands, used, 1)),
         0x5f => forms::swap(w, g, place(y, at, operands, used, 1)),
-        0x60 => forms::ibin(w, g, place(y, at, operands, used, 1), 0),
-        0x64 => forms::ibin(w, g, place(y, at, operands, used, 1), 1),
-        0x68 => forms::ibin(w, g, place(y, at, operands, used, 1), 2),
-        0x6c => forms::idiv(w, g, place(y, at, operands, used, 1), 0),
-        0x70 => forms::idiv(w, g, place(y, at, operands, used, 1), 1),
+        0x60 => forms::ibin(w, g, place(y, at, operands, used, 1), Op::Add),
+        0x64 => forms::ibin(w, g, place(y, at, operands, used, 1), Op::Sub),
+        0x68 => forms::ibin(w, g, place(y, at, operands, used, 1), Op::Mul),
+        0x6c => forms::idiv(w, g, place(y, at, operands, used, 1), Division::Quotient),
+        0x70 => forms::idiv(w, g, place(y, at, operands, used, 1), Division::Remainder),
         0x74 => forms::ineg(w, g, place(y, at, operands, used, 1)),
-        0x78 => forms::ibin(w, g, place(y, at, operands, used, 1), 3),
-        0x7a => forms::ibin(w, g, place(y, at, operands, used, 1), 4),
-        0x7c => forms::ibin(w, g, place(y, at, operands, used, 1), 5),
-        0x7e => forms::ibin(w, g, place(y, at, operands, used, 1), 6),
-        0x80 => forms::ibin(w, g, place(y, at, operands, used, 1), 7),
-        0x82 => forms::ibin(w, g, place(y, at, operands, used, 1), 8),
+        0x78 => forms::ibin(w, g, place(y, at, operands, used, 1), Op::Shl),
+        0x7a => forms::ibin(w, g, place(y, at, operands, used, 1), Op::Shr),
+        0x7c => forms::ibin(w, g, place(y, at, operands, used, 1), Op::Ushr),
+        0x7e => forms::ibin(w, g, place(y, at, operands, used, 1), Op::And),
+        0x80 => forms::ibin(w, g, place(y, at, operands, used, 1), Op::Or),
+        0x82 => forms::ibin(w, g, place(y, at, operands, used, 1), Op::Xor),
         0x84 => forms::increment(
             w,
             g,

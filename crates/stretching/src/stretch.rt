@@ -30,34 +30,31 @@ pub fn stretch(
     let mut at = from.at;
     let mut operands = from.operands;
     let mut used = from.used;
-    let mut left = from.left;
-    while 0 < left {
+    for spent in 0..from.left {
         if end <= at {
             return Spot {
                 at,
                 operands,
                 used,
-                left,
+                left: from.left - spent,
             };
         }
-        let r = quick::turn(b, t, code, cells, w, g, y, at, operands, used);
-        if r.end != 0 {
+        let Ok(r) = quick::turn(b, t, code, cells, w, g, y, at, operands, used) else {
             return Spot {
                 at,
                 operands,
                 used,
-                left,
+                left: from.left - spent,
             };
-        }
+        };
         at = r.at;
         operands = r.operands;
         used = r.used;
-        left -= 1;
     }
     Spot {
         at,
         operands,
         used,
-        left,
+        left: 0,
     }
 }

@@ -1,12 +1,11 @@
 -- Laws of readings: numbers past the end, what a cut is, and where a reading ends. Assumes nothing.
-use Rattle.std.specs.Prelude.{ℕ, zero, suc, ◌+◌, ◌-◌, ◌*◌, ◌<◌, ◌≤◌, ◌≡◌, refl, List, [], ◌∷◌, Bool, true, false, cond, not, leb, length, get_or}
-use Rattle.std.proofs.Common.{sym, subst, arith, le-leb, leb-true, leb-false}
+use Rattle.std.specs.Prelude.{ℕ, zero, suc, ◌+◌, ◌-◌, ◌*◌, ◌<◌, ◌≤◌, ◌≡◌, refl, List, [], ◌∷◌, Bool, true, false, cond, leb, ◌⊎◌, length, get_or}
+use Rattle.std.proofs.Common.{sym, subst, ◌∙◌, inl, inr, arith, le-leb, leb-true, leb-false}
 use Rattle.std.proofs.Math.ListN.{get_or-eq_default}
 use Rattle.std.proofs.lemmas.Bool.{lt-leb}
 use Rattle.kit.specs.Bools.{not_so}
+use Rattle.kit.specs.Pick.{side}
 use Rattle.texts.specs.Reading.{Res, ok, bad, and_then, pre, many, u2_at, u4_at, num2_at, num4_at, skip_at, u2}
-use Rattle.texts.specs.Answers.{res, no_ok}
-use Rattle.texts.specs.declared.items.Got.{Got}
 
 -- past the end each number is 0
 pub past2 : (s : List ℕ) (q : ℕ) → length s ≤ q → 0 ≡ u2_at s q
@@ -26,11 +25,12 @@ high s q v e h = let l : length s < q + 3 = leb-false (q + 3) (length s) h in om
 pub cut-before : (e q k : ℕ) → e < q → (false ≡ leb (q + k) e) × (false ≡ true → q + k ≤ e)
 cut-before e q k h = (sym (lt-leb (q + k) e (omega arith)), λ z. absurd (not_so z))
 
-pub cut_short : (e q k : ℕ) → q ≤ e → e - q < k → (false ≡ leb (q + k) e) × (false ≡ true → q + k ≤ e)
-cut_short e q k h l = (sym (lt-leb (q + k) e (omega arith)), λ z. absurd (not_so z))
-
-pub not_cut : (e q k : ℕ) → q ≤ e → k ≤ e - q → (true ≡ leb (q + k) e) × (true ≡ true → q + k ≤ e)
-not_cut e q k h l = (sym (le-leb (q + k) e (omega arith)), λ z. omega arith)
+pub cut_by : (e q k : ℕ) → q ≤ e → (leb k (e - q) ≡ leb (q + k) e) × (leb k (e - q) ≡ true → q + k ≤ e)
+cut_by e q k h = at (side (e - q) k)
+  where
+    at : (e - q < k) ⊎ (k ≤ e - q) → (leb k (e - q) ≡ leb (q + k) e) × (leb k (e - q) ≡ true → q + k ≤ e)
+    at (inl l) = let p = lt-leb k (e - q) l in let r : q + k ≤ e → ⊥ = λ z. omega arith in (p ∙ sym (lt-leb (q + k) e (omega arith)), λ z. absurd (not_so (sym p ∙ z)))
+    at (inr l) = (le-leb k (e - q) l ∙ sym (le-leb (q + k) e (omega arith)), λ z. omega arith)
 
 -- what holds of what is read
 abbrev pub Holds : {A : Type 0} → (A → ℕ → Type 0) → Res A → Type 0
@@ -128,14 +128,14 @@ skip_holds end n p k q = by (leb (q + k) end) refl
     by true h = (refl, refl, leb-true (q + k) end h)
     by false h = tt
 
--- the same of the code's answers
-pub u2_val : (s : List ℕ) (q : ℕ) (a : Got) → res a ≡ u2 s q → not a.ok ≡ false → (a.val ≡ u2_at s q) × (a.at ≡ q + 2) × (a.at ≤ length s)
-u2_val s q a h t = holds_of (IsU2 s (length s) q) (u2 s q) a.val a.at (u2-holds s q) (no_ok _ a a.val h t)
+-- the same of what the code read
+pub u2_val : (s : List ℕ) (q v e : ℕ) → ok v e ≡ u2 s q → (v ≡ u2_at s q) × (e ≡ q + 2) × (e ≤ length s)
+u2_val s q v e h = holds_of (IsU2 s (length s) q) (u2 s q) v e (u2-holds s q) (sym h)
 
-pub num2_val : (s : List ℕ) (end n p q : ℕ) (a : Got) → res a ≡ num2_at s end n p q → not a.ok ≡ false → (a.val ≡ u2_at s q) × (a.at ≡ q + 2) × (a.at ≤ end)
-num2_val s end n p q a h t =
-    holds_of (IsU2 s end q) (num2_at s end n p q) a.val a.at (num2_holds s end n p q) (no_ok _ a a.val h t)
+pub num2_val : (s : List ℕ) (end n p q v e : ℕ) → ok v e ≡ num2_at s end n p q → (v ≡ u2_at s q) × (e ≡ q + 2) × (e ≤ end)
+num2_val s end n p q v e h =
+    holds_of (IsU2 s end q) (num2_at s end n p q) v e (num2_holds s end n p q) (sym h)
 
-pub skip_val : (end n p k q : ℕ) (a : Got) → res a ≡ skip_at end n p k q → not a.ok ≡ false → (a.val ≡ q) × (a.at ≡ q + k) × (a.at ≤ end)
-skip_val end n p k q a h t =
-    holds_of (λ v e. (v ≡ q) × (e ≡ q + k) × (e ≤ end)) (skip_at end n p k q) a.val a.at (skip_holds end n p k q) (no_ok _ a a.val h t)
+pub skip_val : (end n p k q v e : ℕ) → ok v e ≡ skip_at end n p k q → (v ≡ q) × (e ≡ q + k) × (e ≤ end)
+skip_val end n p k q v e h =
+    holds_of (λ v e. (v ≡ q) × (e ≡ q + k) × (e ≤ end)) (skip_at end n p k q) v e (skip_holds end n p k q) (sym h)

@@ -1,15 +1,9 @@
 // The numbers of a layout, each read where it stands, with the fault that a cut gives.
 ghost use Rattle.std.specs.Prelude.{◌≡◌, true, ◌+◌, ◌<◌, ◌≤◌, leb};
 ghost use Rattle.texts.specs.Reading.{u2_at, u4_at, num2_at, num4_at, skip_at, short_at, u2, u4};
-ghost use Rattle.texts.specs.Answers.{res};
+ghost use Rattle.texts.specs.Answers.{res, res_by};
 
-// ok: a number and the position past it; else a fault's number and place.
-#[derive(Clone, Copy)]
-pub struct Got {
-    pub ok: bool,
-    pub val: usize,
-    pub at: usize,
-}
+use crate::faults::{Fault, Got, Reason, Refusal};
 
 // Whether k bytes at q end by e.
 pub fn fits_in(e: usize, q: usize, k: usize) -> bool
@@ -18,10 +12,7 @@ pub fn fits_in(e: usize, q: usize, k: usize) -> bool
     if e < q {
         return false;
     }
-    if e - q < k {
-        return false;
-    }
-    true
+    k <= e - q
 }
 
 pub fn u2_at(s: &[u8], q: usize) -> usize
@@ -43,86 +34,65 @@ pub fn u4_at(s: &[u8], q: usize) -> usize
     high
 }
 
-pub fn num2(s: &[u8], e: usize, n: usize, p: usize, q: usize) -> Got
-    ensures { res result ≡ num2_at s.now e n p q }
+// Two bytes at q that end by e.
+pub fn num2<E: Reason>(s: &[u8], e: usize, fault: E, q: usize) -> Result<Got<usize>, E>
+    ensures { res_by (λ n. n) E.number E.place result ≡ num2_at s.now e (E.number fault) (E.place fault) q }
 {
     if fits_in(e, q, 2) {
-        return Got {
-            ok: true,
+        return Ok(Got {
             val: u2_at(s, q),
             at: q + 2,
-        };
+        });
     }
-    Got {
-        ok: false,
-        val: n,
-        at: p,
-    }
+    Err(fault)
 }
 
-pub fn num4(s: &[u8], e: usize, n: usize, p: usize, q: usize) -> Got
-    ensures { res result ≡ num4_at s.now e n p q }
+pub fn num4<E: Reason>(s: &[u8], e: usize, fault: E, q: usize) -> Result<Got<usize>, E>
+    ensures { res_by (λ n. n) E.number E.place result ≡ num4_at s.now e (E.number fault) (E.place fault) q }
 {
     if fits_in(e, q, 4) {
-        return Got {
-            ok: true,
+        return Ok(Got {
             val: u4_at(s, q),
             at: q + 4,
-        };
+        });
     }
-    Got {
-        ok: false,
-        val: n,
-        at: p,
-    }
+    Err(fault)
 }
 
-pub fn skip(e: usize, n: usize, p: usize, k: usize, q: usize) -> Got
-    ensures { res result ≡ skip_at e n p k q }
+// k bytes at q that end by e; the value is where they start.
+pub fn skip<E: Reason>(e: usize, fault: E, k: usize, q: usize) -> Result<Got<usize>, E>
+    ensures { res_by (λ n. n) E.number E.place result ≡ skip_at e (E.number fault) (E.place fault) k q }
 {
     if fits_in(e, q, k) {
-        return Got {
-            ok: true,
-            val: q,
-            at: q + k,
-        };
+        return Ok(Got { val: q, at: q + k });
     }
-    Got {
-        ok: false,
-        val: n,
-        at: p,
-    }
+    Err(fault)
 }
 
-pub fn short(s: &[u8], e: usize, n: usize, p: usize, most: usize, q: usize) -> Got
-    ensures { res result ≡ short_at s.now e n p most q }
+pub fn short<E: Reason>(
+    s: &[u8],
+    e: usize,
+    fault: E,
+    most: usize,
+    q: usize,
+) -> Result<Got<usize>, E>
+    ensures { res_by (λ n. n) E.number E.place result ≡ short_at s.now e (E.number fault) (E.place fault) most q }
 {
-    let v = num2(s, e, n, p, q);
-    if !v.ok {
-        return v;
+    let n = num2(s, e, fault, q)?;
+    if most < n.val {
+        return Err(E::past_limit(q));
     }
-    if most < v.val {
-        return Got {
-            ok: false,
-            val: 4,
-            at: q,
-        };
-    }
-    Got {
-        ok: true,
-        val: v.val,
-        at: v.at,
-    }
+    Ok(n)
 }
 
-pub fn u2(s: &[u8], q: usize) -> Got
+pub fn u2(s: &[u8], q: usize) -> Result<Got<usize>, Fault>
     ensures { res result ≡ u2 s.now q }
 {
-    num2(s, s.len(), 2, q, q)
+    num2(s, s.len(), Fault(Refusal::CutShort, q), q)
 }
 
-pub fn u4(s: &[u8], q: usize) -> Got
+pub fn u4(s: &[u8], q: usize) -> Result<Got<usize>, Fault>
     ensures { res result ≡ u4 s.now q }
 {
-    num4(s, s.len(), 2, q, q)
+    num4(s, s.len(), Fault(Refusal::CutShort, q), q)
 }

@@ -40,12 +40,10 @@ pub fn unqualified(t: &[u8]) -> bool
     if t.len() == 0 {
         return false;
     }
-    let mut i = 0;
-    while i < t.len() {
+    for i in 0..t.len() {
         if !plain_at(t, i) {
             return false;
         }
-        i += 1;
     }
     true
 }
@@ -74,37 +72,19 @@ pub fn class_name(t: &[u8]) -> bool
     if t.len() == 0 {
         return false;
     }
-    let mut i = 0;
-    while i < t.len() {
+    for i in 0..t.len() {
         if !class_byte(t, i) {
             return false;
         }
-        i += 1;
     }
     true
-}
-
-fn same_at(x: &[u8], y: &[u8], i: usize) -> bool
-    ensures { result ≡ alike x.now y.now i }
-{
-    kit::byte(x, i) == kit::byte(y, i)
 }
 
 // Two texts, byte by byte.
 pub fn same_text(x: &[u8], y: &[u8]) -> bool
     ensures { result ≡ eq_list x.now y.now }
 {
-    if x.len() == y.len() {
-        let mut i = 0;
-        while i < x.len() {
-            if !same_at(x, y, i) {
-                return false;
-            }
-            i += 1;
-        }
-        return true;
-    }
-    false
+    x == y
 }
 
 pub fn is_init(t: &[u8]) -> bool

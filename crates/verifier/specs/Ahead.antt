@@ -1,12 +1,14 @@
 -- What lies ahead of the walk: the row of the next frame, and up to where no table entry covers an offset. Assumes nothing.
-use Rattle.std.specs.Prelude.{ℕ, zero, suc, ◌+◌, ◌-◌, ◌*◌, ◌<◌, ◌≤◌, ◌≡◌, refl, Bool, true, false, cond, List, [], ◌∷◌, ◌⊎◌, eqb, ltb, leb, take}
-use Rattle.std.proofs.Common.{sym, ap, subst, ◌∙◌, inl, inr, arith, ne_eqb, eqb-true, le-ltb, lt-ltb, le-leb, ltb-true, ltb-false}
+use Rattle.std.specs.Prelude.{ℕ, zero, suc, ◌+◌, ◌-◌, ◌*◌, ◌<◌, ◌≤◌, ◌≡◌, refl, Result, Ok, Err, is_ok, Bool, true, false, cond, List, [], ◌∷◌, ◌⊎◌, ltb, leb, take}
+use Rattle.std.proofs.Common.{sym, ap, subst, ◌∙◌, inl, inr, arith, ne_eqb, le-ltb, lt-ltb, le-leb, ltb-true, ltb-false}
 use Rattle.std.proofs.Math.Option.{none}
 use Rattle.std.proofs.lemmas.Bool.{lt-leb}
 use Rattle.kit.specs.Pick.{side}
 use Rattle.kit.specs.Bools.{not_so}
 use Rattle.kit.specs.Words.{word}
-use Rattle.kit.specs.Claims.{Claim, is, verdict}
+use Rattle.kit.specs.Claims.{Claim, pass, ruled, verdict}
+use Rattle.texts.specs.Faults.{number}
+use Rattle.texts.specs.declared.faults.Refusal.{Refusal}
 use Rattle.texts.specs.Reading.{u2_at}
 use Rattle.classfiles.specs.Attributes.{handlers_from}
 use Rattle.reader.specs.BuiltIns.{first_class}
@@ -33,7 +35,7 @@ use Rattle.verifier.specs.declared.ahead.Ahead.{Ahead}
 -- where it is so, they ask nothing that fails at o
 abbrev pub Handled : List ℕ → List ℕ → Site → Kin → Rows → Held → ℕ → Bool → Type 0
 Handled s t x kin f h o b =
-    b ≡ true → is 0 ≡ verdict (handlers_by (lineage t kin.at kin.count) (catch_in t x.class (first_class + x.classes)) (frames_of t f) o h.flag (locals_of t h) (handlers_from s x.entries x.table))
+    b ≡ true → pass ≡ verdict (handlers_by (lineage t kin.at kin.count) (catch_in t x.class (first_class + x.classes)) (frames_of t f) o h.flag (locals_of t h) (handlers_from s x.entries x.table))
 
 hands_same : (L : Program) (a b : ℕ → ℕ) → ((c : ℕ) → a c ≡ b c) → (fs : List Frame) (o : ℕ) (g : Bool) (l : List Ty) (hs : List Handler) → handlers_by L a fs o g l hs ≡ handlers_by L b fs o g l hs
 unfolding handlers_by handler_by
@@ -60,24 +62,25 @@ handled_beside s t u x kin f h o b w k d e =
 
 -- what is left to ask where they have been asked
 pub handled_left : (s t : List ℕ) (x : Site) (kin : Kin) (f : Rows) (h : Held) (o : ℕ) (asked hide : Bool) (k : Key) → Handled s t x kin f h o asked → asked ≡ true → hide ≡ false
-    → is 0 ≡ verdict (handlers_by (lineage t kin.at kin.count) (catch_in t x.class (first_class + x.classes)) (frames_of t f) o h.flag (veil hide k (locals_of t h)) (handlers_from s x.entries x.table))
+    → pass ≡ verdict (handlers_by (lineage t kin.at kin.count) (catch_in t x.class (first_class + x.classes)) (frames_of t f) o h.flag (veil hide k (locals_of t h)) (handlers_from s x.entries x.table))
 handled_left s t x kin f h o asked hide k d e z =
     d e
     ∙ ap (λ (l : List Ty). verdict (handlers_by (lineage t kin.at kin.count) (catch_in t x.class (first_class + x.classes)) (frames_of t f) o h.flag l (handlers_from s x.entries x.table)))
     (sym (ap (λ (b : Bool). veil b k (locals_of t h)) z ∙ veil_no k (locals_of t h)))
 
 -- as they were asked
-pub handled_asked : (s t : List ℕ) (x y : Site) (kin : Kin) (f : Rows) (h : Held) (o : ℕ) (k : Key) (r : ℕ) → y ≡ x
-    → is r ≡ verdict (handlers_by (lineage t kin.at kin.count) (catch_in t y.class (first_class + y.classes)) (frames_of t f) o h.flag (veil false k (locals_of t h)) (handlers_from s y.entries y.table))
-    → Handled s t x kin f h o (eqb r 0)
-handled_asked s t x y kin f h o k r e d = subst (λ (z : Site). Handled s t z kin f h o (eqb r 0)) e (λ q.
-    ap is (sym (eqb-true r 0 q)) ∙ d
+pub handled_asked : (s t : List ℕ) (x y : Site) (kin : Kin) (f : Rows) (h : Held) (o : ℕ) (k : Key) (r : Result (Unit {0}) Refusal) → y ≡ x
+    → ruled number r ≡ verdict (handlers_by (lineage t kin.at kin.count) (catch_in t y.class (first_class + y.classes)) (frames_of t f) o h.flag (veil false k (locals_of t h)) (handlers_from s y.entries y.table))
+    → Handled s t x kin f h o (is_ok r)
+handled_asked s t x y kin f h o k (Err z) e d = λ q. absurd (not_so q)
+handled_asked s t x y kin f h o k (Ok u) e d = subst (λ (z : Site). Handled s t z kin f h o true) e (λ q.
+    d
     ∙ ap (λ (l : List Ty). verdict (handlers_by (lineage t kin.at kin.count) (catch_in t y.class (first_class + y.classes)) (frames_of t f) o h.flag l (handlers_from s y.entries y.table))) (veil_no k (locals_of t h)))
 
 -- from o up to z no entry of the table asks anything
 pub record Quiet (s : List ℕ) (x : Site) (o z : ℕ) : Type 0 where
   pub asks : (L : Program) (catch_of : ℕ → ℕ) (fs : List Frame) (g : Bool) (l : List Ty) (p : ℕ) → o ≤ p → p < z
-      → is 0 ≡ verdict (handlers_by L catch_of fs p g l (handlers_from s x.entries x.table))
+      → pass ≡ verdict (handlers_by L catch_of fs p g l (handlers_from s x.entries x.table))
 
 pub quiet_start : (s : List ℕ) (x : Site) (o z : ℕ) → z ≡ 0 → Quiet s x o z
 quiet_start s x o z e = record { asks = λ L k fs g l p a b. absurd (omega arith) }
@@ -112,11 +115,11 @@ pub hushing_next : (s : List ℕ) (b n o q left r : ℕ) → Hushing s b n o q l
 hushing_next s b n o q left r h m z d = record {
   asks = λ L k fs g l p a c.
       let e = d.least in
-      hand_more L k fs p g l s q left _ 0 (h.asks L k fs g l p a (omega arith)) m (not_covered L k fs p g l false (entry_at s q) refl (d.free p a c)) refl;
+      hand_more L k fs p g l s q left _ (q + 8) (left - 1) (omega arith) refl (h.asks L k fs g l p a (omega arith)) (not_covered L k fs p g l false (entry_at s q) refl (d.free p a c));
 }
 
 pub hushing_end : (s : List ℕ) (x : Site) (o q left r : ℕ) → Hushing s x.table x.entries o q left r → left ≤ 0 → Quiet s x o r
-hushing_end s x o q left r h m = record { asks = λ L k fs g l p a c. hand_end L k fs p g l s q left _ (h.asks L k fs g l p a c) m }
+hushing_end s x o q left r h m = record { asks = λ L k fs g l p a c. hand_end L k fs p g l s q left _ (h.asks L k fs g l p a c) (omega arith) }
 
 -- ---- entries that cover the same
 -- from o up to z the entry at q covers what it does at o, and z is no later than r

@@ -1,12 +1,11 @@
 -- What the instruction at an offset finds: the state that came, or the frame's that it met. Assumes nothing.
 use Rattle.std.specs.Prelude.{ℕ, ◌+◌, ◌≡◌, refl, Bool, true, false, T, length, take}
-use Rattle.std.proofs.Common.{sym, ap, subst, ◌∙◌, arith}
+use Rattle.std.proofs.Common.{sym, ap, subst, ◌∙◌, arith, List, [], ◌∷◌, ◌++◌, append-nil}
 use Rattle.std.specs.Bool.{beq}
-use mathlib.Core.List.{List, [], ◌∷◌, ◌++◌, append-nil}
 use Rattle.std.proofs.Math.Option.{Option, none, some}
 use Rattle.std.proofs.Math.Dec.{eqb_refl}
 use Rattle.kit.specs.Bools.{true-T}
-use Rattle.kit.specs.Claims.{Claim, pass, is, verdict, is_zero, all_pass, AllT}
+use Rattle.kit.specs.Claims.{Claim, pass, verdict, all_pass, AllT}
 use Rattle.reader.specs.BuiltIns.{first_class}
 use Rattle.reader.specs.Program.{Program, Method}
 use Rattle.rules.specs.Types.{Ty}
@@ -59,13 +58,13 @@ module _ (live : Bool) (S T' : State) (F : Option State) (e : T' ≡ merged (cur
       go true (some G) q = sym q
       go false (some G) q = sym q
 
-pub entered_met : (t : List ℕ) (f : Rows) (h : Held) (o : ℕ) → Entered t f h o → (P : Program) → is 0 ≡ verdict (meets P (current true (held t h)) (frame_at (frames_of t f) o))
-entered_met t f h o e P = is_zero 0 refl ∙ sym (e.met P)
+pub entered_met : (t : List ℕ) (f : Rows) (h : Held) (o : ℕ) → Entered t f h o → (P : Program) → pass ≡ verdict (meets P (current true (held t h)) (frame_at (frames_of t f) o))
+entered_met t f h o e P = sym (e.met P)
 
 -- ---- a line from where it arrived is the line from what came
-module _ (s t u : List ℕ) (x : Site) (kin : Kin) (f : Rows) (live : Bool) (h : Held) (o : ℕ) (w : Walking s t x kin f h) (a : ℕ) (g : Held)
-    (m : is a ≡ verdict (meets (lineage t kin.at kin.count) (current live (held t h)) (frame_at (frames_of t f) o)))
-    (l : a ≡ 0 → held u g ≡ merged (current live (held t h)) (frame_at (frames_of t f) o)) (go : Going h g) (out : Outside h.at t u) (z : a ≡ 0) where
+module _ (s t u : List ℕ) (x : Site) (kin : Kin) (f : Rows) (live : Bool) (h : Held) (o : ℕ) (w : Walking s t x kin f h) (g : Held)
+    (m : pass ≡ verdict (meets (lineage t kin.at kin.count) (current live (held t h)) (frame_at (frames_of t f) o)))
+    (l : held u g ≡ merged (current live (held t h)) (frame_at (frames_of t f) o)) (go : Going h g) (out : Outside h.at t u) where
   front : take 260736 u ≡ take 260736 t
   front = outside_front t u h.at w.at out
 
@@ -74,8 +73,8 @@ module _ (s t u : List ℕ) (x : Site) (kin : Kin) (f : Rows) (live : Bool) (h :
 
   pub arrived : Entered u f g o
   arrived = record {
-    met = λ P. ap (λ (fs : List Frame). verdict (meets P (some (held u g)) (frame_at fs o))) frames ∙ met_self live (held t h) (held u g) (frame_at (frames_of t f) o) (l z) P;
-    same = ap (λ (fs : List Frame). merged (some (held u g)) (frame_at fs o)) frames ∙ same_self live (held t h) (held u g) (frame_at (frames_of t f) o) (l z);
+    met = λ P. ap (λ (fs : List Frame). verdict (meets P (some (held u g)) (frame_at fs o))) frames ∙ met_self live (held t h) (held u g) (frame_at (frames_of t f) o) l P;
+    same = ap (λ (fs : List Frame). merged (some (held u g)) (frame_at fs o)) frames ∙ same_self live (held t h) (held u g) (frame_at (frames_of t f) o) l;
   }
 
   pub arrived_walking : length u ≡ length t → Walking s u x kin f g
@@ -86,9 +85,9 @@ module _ (s t u : List ℕ) (x : Site) (kin : Kin) (f : Rows) (live : Bool) (h :
       → (verdict (line_claims P M t f o (some (held u g))) ≡ verdict (line_claims P M t f o (current live (held t h)))) × (line_after P M t f o (some (held u g)) ≡ line_after P M t f o (current live (held t h)))
   arrived_same P M d =
       let F = frame_at (frames_of t f) o in
-      let S = same_self live (held t h) (held u g) F (l z) in (
-        sym (claims_left P M t f o (some (held u g)) (held u g) S (met_self live (held t h) (held u g) F (l z) P))
-            ∙ ap (λ (T : State). verdict (instruction_claims P M (frames_of t f) o (instruction P M o) T)) (l z)
-            ∙ line_on P M t f o (current live (held t h)) (first_class + x.classes) d.parents a (met_at s t u x kin f live h o w a g m l go out) z,
-        sym (after_left P M t f o (some (held u g)) (held u g) S) ∙ after_left P M t f o (current live (held t h)) (held u g) (sym (l z)),
+      let S = same_self live (held t h) (held u g) F l in (
+        sym (claims_left P M t f o (some (held u g)) (held u g) S (met_self live (held t h) (held u g) F l P))
+            ∙ ap (λ (T : State). verdict (instruction_claims P M (frames_of t f) o (instruction P M o) T)) l
+            ∙ line_on P M t f o (current live (held t h)) (first_class + x.classes) d.parents (met_at s t u x kin f live h o w out pass m),
+        sym (after_left P M t f o (some (held u g)) (held u g) S) ∙ after_left P M t f o (current live (held t h)) (held u g) (sym l),
       )

@@ -1,9 +1,6 @@
 -- Some words of a scratch change and all other bytes stay: what that leaves of the method's site, marks and types. Assumes nothing.
 use Rattle.std.specs.Prelude.{ℕ, zero, suc, ◌+◌, ◌-◌, ◌*◌, ◌/◌, ◌^◌, ◌<◌, ◌≤◌, ◌≡◌, refl, ◌⊎◌, min, length, get_or}
-use Rattle.std.proofs.Common.{sym, ◌∙◌, arith, add-one, length-take, get_or-take, ext_get_or}
-use Rattle.std.proofs.Math.Path.{ap, subst}
-use mathlib.Core.List.{List, [], ◌∷◌, ◌++◌}
-use Rattle.std.proofs.Math.Logic.{inl, inr}
+use Rattle.std.proofs.Common.{sym, ◌∙◌, arith, add-one, length-take, get_or-take, ext_get_or, ap, subst, List, [], ◌∷◌, ◌++◌, inl, inr}
 use Rattle.kit.specs.Pick.{side}
 use Rattle.kit.specs.Words.{word, put_word, word_by, word_out, word_same, word_other, byte_other, length_put}
 use Rattle.rules.specs.Types.{Ty}

@@ -1,10 +1,8 @@
 -- What an instruction's surroundings are by the tables: a callee's types, what this method returns, and the class that a new names.
 -- Assumes nothing.
-use Rattle.std.specs.Prelude.{ℕ, zero, suc, ◌+◌, ◌-◌, ◌*◌, ◌^◌, ◌/◌, ◌%◌, ◌<◌, ◌≤◌, ◌≡◌, refl, cond, List, [], ◌∷◌, ◌++◌, reverse, ◌⊎◌, ltb, length, get_or, take}
-use Rattle.std.proofs.Math.Path.{sym}
-use Rattle.std.proofs.Common.{ap, ◌∙◌, inl, inr, arith, get_or-take}
+use Rattle.std.specs.Prelude.{ℕ, zero, suc, ◌+◌, ◌-◌, ◌*◌, ◌^◌, ◌/◌, ◌%◌, ◌<◌, ◌≤◌, ◌≡◌, refl, Option, Some, None, cond, List, [], ◌∷◌, ◌++◌, reverse, ◌⊎◌, ltb, length, get_or, take}
+use Rattle.std.proofs.Common.{ap, ◌∙◌, inl, inr, arith, get_or-take, sym, lt-ltb, le-ltb, eq-eqb, ne_eqb}
 use Rattle.std.proofs.lemmas.List.{reverse-append}
-use borrow.Author.Tests.{lt-ltb, le-ltb, eq-eqb, ne_eqb}
 use Rattle.kit.specs.Pick.{side}
 use Rattle.kit.specs.Words.{word, put_word, word_same, word_other}
 use Rattle.classfiles.specs.BlockWords.{take_put, listed_same}
@@ -21,8 +19,6 @@ use Rattle.rules.specs.Forms.{gives_of}
 use Rattle.rules.specs.Groups.{results_of}
 use Rattle.rules.specs.declared.types.Ty as code
 use Rattle.rules.specs.declared.calls.Params.{Params}
-use Rattle.rules.specs.declared.forms.Gives.{Gives}
-use Rattle.rules.specs.declared.forms.Gives.TheVariants.{Nothing, Value}
 
 -- how many methods bundle class c has, as its block says
 abbrev pub methods_in : List ℕ → ℕ → ℕ
@@ -90,14 +86,14 @@ module _ (t : List ℕ) (k : ℕ) where
     back_some z = sym (rw (ne_eqb v 256 z)) ∙ back_is
 
 -- what the code's result stands for, as a descriptor and as a type
-pub record Back (g : Gives) (ds : List Desc) : Type 0 where
+pub record Back (g : Option code.Ty) (ds : List Desc) : Type 0 where
   pub results : results_of g ≡ ds
   pub gives : gives_of g ≡ tys_of ds
 
-pub back-nothing : (ds : List Desc) → [] ≡ ds → Back Nothing ds
+pub back-nothing : (ds : List Desc) → [] ≡ ds → Back None ds
 back-nothing ds e = record { results = e; gives = ap tys_of e }
 
-pub back_value : (ds : List Desc) (w : code.Ty) (d : Desc) → d ∷ [] ≡ ds → desc_of w.word ≡ d → type_of w.word ≡ ty_of d → Back (Value w) ds
+pub back_value : (ds : List Desc) (w : code.Ty) (d : Desc) → d ∷ [] ≡ ds → desc_of w.word ≡ d → type_of w.word ≡ ty_of d → Back (Some w) ds
 back_value ds w d e p q =
     record { results = ap (λ (y : Desc). y ∷ []) p ∙ e; gives = ap (λ (y : Ty). y ∷ []) q ∙ ap tys_of e }
 

@@ -1,10 +1,6 @@
 -- Whatever is wrong with frame k is 14 at k: a reading that has no other fault. Assumes nothing.
-use Prim.Native.Nat.{ℕ, zero, suc, ◌+◌}
 use Rattle.std.specs.Prelude.{◌≡◌, Bool, true, false, cond, eqb, ltb, leb, get_or}
-use Rattle.std.proofs.Math.Path.{refl, ap}
-use Rattle.std.proofs.Common.{sym, ◌∙◌, arith}
-use mathlib.Core.List.{List, [], ◌∷◌}
-use Rattle.std.proofs.Math.ListN.{length}
+use Rattle.std.proofs.Common.{sym, ◌∙◌, arith, ℕ, zero, suc, ◌+◌, refl, ap, List, [], ◌∷◌, length}
 use Rattle.texts.specs.Reading.{Res, ok, bad, and_then, pre, many, num2_at, u2_at}
 use Rattle.reader.specs.Program.{class, is_constructor}
 use Rattle.rules.specs.Resolve.{Resolved, nothing, number, type, field, method_of, resolve}
@@ -35,6 +31,12 @@ other n p m q e =
     let a : n ≡ m = ap fault_of e in
     let b : p ≡ q = ap place_of e in
     cc
+
+-- a fault that it has
+pub clean-fault : {A : Type 0} (k : ℕ) (r : Res A) → clean k r ≡ r → (n p : ℕ) → bad n p ≡ r → (n ≡ 14) × (p ≡ k)
+unfolding fault_of place_of
+clean-fault k (ok v e) c n p h = let z : ◌≡◌ {A = ℕ} 0 1 = cc in absurd (omega arith)
+clean-fault k (bad m q) c n p h = (ap fault_of (h ∙ sym c), ap place_of (h ∙ sym c))
 
 module _ (k : ℕ) where
   pub clean-cond : {A : Type 0} (b : Bool) (r q : Res A) → clean k r ≡ r → clean k q ≡ q → clean k (cond b r q) ≡ cond b r q

@@ -1,18 +1,14 @@
 -- Laws of frames as they are read: each form within the method's limits. Assumes nothing.
-use Rattle.std.specs.Prelude.{ℕ, zero, suc, ◌+◌, ◌-◌, ◌^◌, ◌<◌, ◌≤◌, ◌≡◌, Bool, not, leb, length}
-use Rattle.std.proofs.Math.Path.{refl, sym, ap}
-use Rattle.std.proofs.Common.{◌∙◌, inl, zero-add, length-append}
-use Rattle.std.proofs.Math.Bool.{true, false, cond}
-use mathlib.Core.List.{List, [], ◌∷◌, ◌++◌}
-use native.Mathlib.Omega.{arith}
-use Rattle.std.proofs.Math.ListN.{take}
-use Rattle.std.proofs.Math.Seq.{take_at}
-use borrow.Author.Tests.{le-leb, lt-leb, not-true, not-false}
-use Rattle.kit.specs.Bools.{not_so}
+use Rattle.std.specs.Prelude.{ℕ, zero, suc, ◌+◌, ◌-◌, ◌^◌, ◌<◌, ◌≤◌, ◌≡◌, Result, Ok, Err, IfOk, IfErr, IsErrAnd, Bool, leb, length}
+use Rattle.std.proofs.Common.{◌∙◌, inl, zero-add, length-append, refl, sym, ap, true, false, cond, List, [], ◌∷◌, ◌++◌, arith, take, take_at, le-leb}
+use borrow.Author.Tests.{lt-leb}
 use Rattle.kit.specs.Words.{word, put_word, word_same}
 use Rattle.texts.specs.Reading.{Res, ok, bad, and_then, many}
-use Rattle.texts.specs.Answers.{res_as, is_ok_lem, is_bad}
-use Rattle.texts.specs.declared.items.Got.{Got}
+use Rattle.texts.specs.Answers.{t_bad, t_stop}
+use Rattle.texts.specs.Faults.{number}
+use Rattle.texts.specs.declared.faults.Refusal.TheVariants.{FrameTable}
+use Rattle.texts.specs.declared.faults.Got.{Got}
+use Rattle.texts.specs.declared.faults.Fault as faults
 use Rattle.rules.specs.Types.{Ty}
 use Rattle.rules.specs.TypeWords.{type_of}
 use Rattle.rules.specs.Slots.{slot, locals_at}
@@ -21,8 +17,8 @@ use Rattle.rules.specs.Frames.{Written, written, one_on_stack, appended, chopped
 use Rattle.verifier.specs.FrameReading.{type_at}
 use Rattle.verifier.specs.FrameTypes.{Types}
 use Rattle.verifier.specs.Besides.{Besides, besides_none, besides_put, besides_wide, besides_locals}
-use Rattle.verifier.specs.CleanFaults.{clean, clean-then, clean-many, clean-type, many-length}
-use Rattle.verifier.specs.Drawing.{drawing, list_in, stack_in, sized, one_by, append_by, chop_by, Drew}
+use Rattle.verifier.specs.CleanFaults.{clean, clean-fault, clean-then, clean-many, clean-type, many-length}
+use Rattle.verifier.specs.Drawing.{drawing, written_in, list_in, stack_in, sized, one_by, append_by, chop_by, Drew}
 use Rattle.rules.specs.declared.site.Site.{Site}
 use Rattle.verifier.specs.declared.frame_reader.Drawn.{Drawn}
 
@@ -54,17 +50,33 @@ none_fits x k form c h = go form refl c h
     go (ok w e) p c h = h w e refl
     go (bad n q) p c h = sym c
 
-module _ (s t : List ℕ) (x : Site) (k : ℕ) (form : Res Written) where
-  pub unfit_drew : (r : Drawn) (u : List ℕ) → r.ok ≡ false → and_then form (sized x k) ≡ bad 14 k → Besides 65184 64 t u → Drew s t x k form r u
-  unfit_drew r u z h b = record { is = rw z (sym h); besides = b; locals = λ y. absurd (not_so (sym z ∙ y)); stack = λ y. absurd (not_so (sym z ∙ y)) }
+-- what is asked of a result that is none
+pub no_ok : {A : Type 0} (P : A → Type 0) (r : Result A faults.Fault) (e : faults.Fault) → IsErrAnd r (λ z. z ≡ e) → IfOk r P
+no_ok P (Ok a) e p = absurd p
+no_ok P (Err z) e p = tt
 
-  pub drawn_drew : (r : Drawn) (u : List ℕ) (d n m a : ℕ) → r ≡ drawing d n m a → form ≡ ok (written d (list_in u n) (stack_in u m)) a → n ≤ x.locals → m ≤ x.stack → Besides 65184 64 t u → Drew s t x k form r u
+-- the fault of frame k, as it was handed on
+pub handed_wrong : {A : Type 0} (k : ℕ) (r : Result A faults.Fault) (e : faults.Fault) → IsErrAnd r (λ z. z ≡ e) → (number e.0 ≡ 14) × (e.1 ≡ k) → IfErr r (λ z. (number z.0 ≡ 14) × (z.1 ≡ k))
+handed_wrong k (Ok a) e p w = tt
+handed_wrong k (Err z) e p w = rw p w
+
+module _ (s t : List ℕ) (x : Site) (k : ℕ) (form : Res Written) where
+  -- refused before all of it is read
+  pub unfit_drew : (u : List ℕ) → and_then form (sized x k) ≡ bad 14 k → Besides 65184 64 t u → Drew s t x k form (Err (record { 0 = FrameTable; 1 = k })) u
+  unfit_drew u h b = record { is = sym h; wrong = (refl, refl); besides = b; locals = tt; stack = tt }
+
+  -- a fault in it that `?` hands on
+  pub stop_drew : (r : Result (Got Drawn) faults.Fault) (e : faults.Fault) → IsErrAnd r (λ z. z ≡ e) → bad (number e.0) e.1 ≡ form → (number e.0 ≡ 14) × (e.1 ≡ k) → (u : List ℕ) → Besides 65184 64 t u → Drew s t x k form r u
+  stop_drew r e p h w u b = record { is = t_stop (written_in u) form (sized x k) r e p h; wrong = handed_wrong k r e p w; besides = b; locals = no_ok _ r e p; stack = no_ok _ r e p }
+
+  pub drawn_drew : (r : Got Drawn) (u : List ℕ) (d n m a : ℕ) → r ≡ drawing d n m a → form ≡ ok (written d (list_in u n) (stack_in u m)) a → n ≤ x.locals → m ≤ x.stack → Besides 65184 64 t u → Drew s t x k form (Ok r) u
   unfolding and_then
   drawn_drew r u d n m a z h l g b = rw z (record {
     is = sym (ap (λ (q : Res Written). and_then q (sized x k)) h ∙ size_ok x k a (written d (list_in u n) (stack_in u m)) (rw (length_locals u 65184 n) l) (rw (length_locals u 65216 m) g));
+    wrong = tt;
     besides = b;
-    locals = λ y. l;
-    stack = λ y. g;
+    locals = l;
+    stack = g;
   })
 
 -- ---- sizes of what is read
@@ -99,32 +111,27 @@ module _ (s t : List ℕ) (x : Site) (f : List ℕ) (k d n q : ℕ) where
   clean_one : clean k (one_by s t x f k d n q) ≡ one_by s t x f k d n q
   clean_one = rw one_is (clean-then k (type_at s t x f k q) _ (clean-type k s t x f q) (λ v e. refl))
 
-  pub one_none : (r : Drawn) → r.ok ≡ false → x.stack < 1 → Drew s t x k (one_by s t x f k d n q) r t
-  one_none r z h =
-      unfit_drew s t x k _ r t z
+  pub one_none : x.stack < 1 → Drew s t x k (one_by s t x f k d n q) (Err (record { 0 = FrameTable; 1 = k })) t
+  one_none h =
+      unfit_drew s t x k _ t
       (none_fits x k (one_by s t x f k d n q) clean_one
       (λ w e p. size_stack x k e w (let y : length w.stack ≡ 1 = one_size d (list_in t n) (type_at s t x f k q) w e (sym one_is ∙ p) in omega arith)))
       (besides_none 65184 64 t)
 
-  module _ (a : Got) (h : res_as a (type_of a.val) ≡ type_at s t x f k q) where
-    pub one_bad : (r : Drawn) → r.ok ≡ false → not a.ok ≡ true → Drew s t x k (one_by s t x f k d n q) r t
-    unfolding and_then
-    one_bad r z y =
-        let b : type_at s t x f k q ≡ bad a.val a.at = is_bad (type_at s t x f k q) a (type_of a.val) h (not-true a.ok y) in
-        let c : one_by s t x f k d n q ≡ bad a.val a.at = one_is ∙ rw b in
-        unfit_drew s t x k _ r t z (none_fits x k (one_by s t x f k d n q) clean_one (λ w e p. absurd (no_written a.val a.at w e (sym c ∙ p)))) (besides_none 65184 64 t)
+  pub one_bad : (r : Result (Got Drawn) faults.Fault) (e : faults.Fault) → IsErrAnd r (λ z. z ≡ e) → bad (number e.0) e.1 ≡ type_at s t x f k q → Drew s t x k (one_by s t x f k d n q) r t
+  one_bad r e p h =
+      stop_drew s t x k _ r e p (t_bad _ (type_at s t x f k q) _ (number e.0) e.1 h refl ∙ sym one_is) (clean-fault k (type_at s t x f k q) (clean-type k s t x f q) (number e.0) e.1 h) t (besides_none 65184 64 t)
 
-    pub one_good : (r : Drawn) (u : List ℕ) → r ≡ drawing d n 1 a.at → not a.ok ≡ false → u ≡ put_word t 65216 a.val → a.val < 2 ^ 32 → n ≤ x.locals → n ≤ 32 → 1 ≤ x.stack → 262144 ≤ length t
-        → Drew s t x k (one_by s t x f k d n q) r u
-    unfolding and_then locals_at slot
-    one_good r u z y eu v l l32 g b =
-        let o : Besides 65216 1 t u = rw eu (besides_put 65216 1 65216 a.val t t (omega arith) (omega arith) (besides_none 65216 1 t)) in
-        let p : type_at s t x f k q ≡ ok (type_of a.val) a.at = is_ok_lem (type_at s t x f k q) a (type_of a.val) h (not-false a.ok y) in
-        let e : list_in u n ≡ list_in t n = besides_locals 65216 1 t u o 65184 n (inl (omega arith)) in
-        let j : word u 65216 ≡ a.val = ap (λ (i : List ℕ). word i 65216) eu ∙ word_same t 65216 a.val (omega arith) v in
-        drawn_drew s t x k _ r u d n 1 a.at z
-        (one_is ∙ rw (p, ← e, ← j))
-        l g (besides_wide 65216 1 65184 64 t u (omega arith) (omega arith) o)
+  pub one_good : (j a : ℕ) → ok (type_of j) a ≡ type_at s t x f k q → (r : Got Drawn) (u : List ℕ) → r ≡ drawing d n 1 a → u ≡ put_word t 65216 j → j < 2 ^ 32 → n ≤ x.locals → n ≤ 32 → 1 ≤ x.stack → 262144 ≤ length t
+      → Drew s t x k (one_by s t x f k d n q) (Ok r) u
+  unfolding and_then locals_at slot
+  one_good j a h r u z eu v l l32 g b =
+      let o : Besides 65216 1 t u = rw eu (besides_put 65216 1 65216 j t t (omega arith) (omega arith) (besides_none 65216 1 t)) in
+      let e : list_in u n ≡ list_in t n = besides_locals 65216 1 t u o 65184 n (inl (omega arith)) in
+      let i : word u 65216 ≡ j = ap (λ (y : List ℕ). word y 65216) eu ∙ word_same t 65216 j (omega arith) v in
+      drawn_drew s t x k _ r u d n 1 a z
+      (one_is ∙ rw (← h, ← e, ← i))
+      l g (besides_wide 65216 1 65184 64 t u (omega arith) (omega arith) o)
 
 -- ---- m locals more
 locals-append : (t : List ℕ) (w n m : ℕ) → locals_at t w (n + m) ≡ locals_at t w n ++ locals_at t (w + n) m
@@ -143,42 +150,40 @@ module _ (s t : List ℕ) (x : Site) (f : List ℕ) (k d m n q : ℕ) where
   clean-append : clean k (append_by s t x f k d m n q) ≡ append_by s t x f k d m n q
   clean-append = rw append_is (clean-then k (many (type_at s t x f k) m q) _ (clean-many k (type_at s t x f k) (λ j. clean-type k s t x f j) m q) (λ v e. refl))
 
-  pub append_none : (r : Drawn) → r.ok ≡ false → x.locals < n + m → Drew s t x k (append_by s t x f k d m n q) r t
-  append_none r z h =
-      unfit_drew s t x k _ r t z
+  pub append_none : x.locals < n + m → Drew s t x k (append_by s t x f k d m n q) (Err (record { 0 = FrameTable; 1 = k })) t
+  append_none h =
+      unfit_drew s t x k _ t
       (none_fits x k (append_by s t x f k d m n q) clean-append
       (λ w e p. size_locals x k e w
       (let y : length w.locals ≡ length (list_in t n) + m = more_size d (list_in t n) m (many (type_at s t x f k) m q) (λ vs c o. many-length (type_at s t x f k) m q vs c o) w e (sym append_is ∙ p) in
       omega (arith, length_locals t 65184 n))))
       (besides_none 65184 64 t)
 
-  module _ (a : Got) (u : List ℕ) (y : Types s t x f k m (65184 + n) q a u) (g : n + m ≤ 32) where
-    wider : Besides 65184 64 t u
-    wider = besides_wide (65184 + n) m 65184 64 t u (omega arith) (omega arith) y.besides
+  module _ (u : List ℕ) (g : n + m ≤ 32) where
+    wider : (a : Result ℕ faults.Fault) → Types s t x f k m (65184 + n) q a u → Besides 65184 64 t u
+    wider a y = besides_wide (65184 + n) m 65184 64 t u (omega arith) (omega arith) y.besides
 
-    pub append_bad : (r : Drawn) → r.ok ≡ false → a.ok ≡ false → Drew s t x k (append_by s t x f k d m n q) r u
-    unfolding and_then
-    append_bad r z o =
-        let b : many (type_at s t x f k) m q ≡ bad a.val a.at = is_bad _ a (locals_at u (65184 + n) m) y.is o in
-        let c : append_by s t x f k d m n q ≡ bad a.val a.at = append_is ∙ rw b in
-        unfit_drew s t x k _ r u z (none_fits x k (append_by s t x f k d m n q) clean-append (λ w e p. absurd (no_written a.val a.at w e (sym c ∙ p)))) wider
+    pub append_bad : (r : Result (Got Drawn) faults.Fault) (e : faults.Fault) → IsErrAnd r (λ z. z ≡ e) → Types s t x f k m (65184 + n) q (Err e) u → Drew s t x k (append_by s t x f k d m n q) r u
+    append_bad r e p y =
+        stop_drew s t x k _ r e p (t_bad _ (many (type_at s t x f k) m q) _ (number e.0) e.1 y.is refl ∙ sym append_is)
+        (clean-fault k (many (type_at s t x f k) m q) (clean-many k (type_at s t x f k) (λ j. clean-type k s t x f j) m q) (number e.0) e.1 y.is) u (wider (Err e) y)
 
-    pub append-good : (r : Drawn) → r ≡ drawing d (n + m) 0 a.at → a.ok ≡ true → n + m ≤ x.locals → Drew s t x k (append_by s t x f k d m n q) r u
+    pub append-good : (a : ℕ) → Types s t x f k m (65184 + n) q (Ok a) u → (r : Got Drawn) → r ≡ drawing d (n + m) 0 a → n + m ≤ x.locals → Drew s t x k (append_by s t x f k d m n q) (Ok r) u
     unfolding and_then locals_at
-    append-good r z o l =
-        let b : many (type_at s t x f k) m q ≡ ok (locals_at u (65184 + n) m) a.at = is_ok_lem _ a (locals_at u (65184 + n) m) y.is o in
+    append-good a y r z l =
+        let b : many (type_at s t x f k) m q ≡ ok (locals_at u (65184 + n) m) a = sym y.is in
         let e : list_in u n ≡ list_in t n = besides_locals (65184 + n) m t u y.besides 65184 n (inl (omega arith)) in
         let j : list_in u (n + m) ≡ list_in t n ++ locals_at u (65184 + n) m = locals-append u 65184 n m ∙ ap (λ (i : List Ty). i ++ locals_at u (65184 + n) m) e in
-        drawn_drew s t x k _ r u d (n + m) 0 a.at z (append_is ∙ rw (b, ← j)) l (omega arith) wider
+        drawn_drew s t x k _ r u d (n + m) 0 a z (append_is ∙ rw (b, ← j)) l (omega arith) (wider (Ok a) y)
 
 -- ---- the last m are dropped
 module _ (s t : List ℕ) (x : Site) (f : List ℕ) (k d m n e : ℕ) where
-  pub chop_none : (r : Drawn) → r.ok ≡ false → n < m → Drew s t x k (chop_by s t x f k d m n e) r t
+  pub chop_none : n < m → Drew s t x k (chop_by s t x f k d m n e) (Err (record { 0 = FrameTable; 1 = k })) t
   unfolding chop_by chopped and_then
-  chop_none r z h =
-      unfit_drew s t x k _ r t z (rw (length_locals t 65184 n, lt-leb m n h)) (besides_none 65184 64 t)
+  chop_none h =
+      unfit_drew s t x k _ t (rw (length_locals t 65184 n, lt-leb m n h)) (besides_none 65184 64 t)
 
-  pub chop_good : (r : Drawn) → r ≡ drawing d (n - m) 0 e → m ≤ n → n ≤ x.locals → Drew s t x k (chop_by s t x f k d m n e) r t
+  pub chop_good : (r : Got Drawn) → r ≡ drawing d (n - m) 0 e → m ≤ n → n ≤ x.locals → Drew s t x k (chop_by s t x f k d m n e) (Ok r) t
   unfolding chop_by chopped locals_at
   chop_good r z h l =
       let y : n ≡ n - m + m = omega arith in

@@ -1,6 +1,8 @@
 -- A frame as the code reads it: its locals stand in the words from 65,184 on, its operands in those from 65,216 on.
-use Rattle.std.specs.Prelude.{ℕ, ◌≤◌, ◌≡◌, true, cond, List, length, leb}
+use Rattle.std.specs.Prelude.{ℕ, ◌≤◌, ◌≡◌, Result, IfOk, IfErr, cond, List, length, leb}
 use Rattle.texts.specs.Reading.{Res, ok, bad, and_then}
+use Rattle.texts.specs.Answers.{res_as}
+use Rattle.texts.specs.Faults.{number}
 use Rattle.rules.specs.Types.{Ty}
 use Rattle.rules.specs.Slots.{locals_at}
 use Rattle.rules.specs.Frames.{Written, written, one_on_stack, appended, chopped, full_at}
@@ -8,10 +10,12 @@ use Rattle.rules.specs.Sites.{front, program_at, method_at}
 use Rattle.shaping.specs.Marks.{lines_at}
 use Rattle.verifier.specs.Besides.{Besides}
 use Rattle.rules.specs.declared.site.Site.{Site}
+use Rattle.texts.specs.declared.faults.Got.{Got}
+use Rattle.texts.specs.declared.faults.Fault as faults
 use Rattle.verifier.specs.declared.frame_reader.Drawn.{Drawn}
 
-abbrev pub drawing : ℕ → ℕ → ℕ → ℕ → Drawn
-drawing d l o a = record { ok = true; delta = d; locals = l; stack = o; at = a }
+abbrev pub drawing : ℕ → ℕ → ℕ → ℕ → Got Drawn
+drawing d l o a = record { val = record { delta = d; locals = l; stack = o }; at = a }
 
 -- the locals and the operands at hand
 abbrev pub list_in : List ℕ → ℕ → List Ty
@@ -20,8 +24,11 @@ list_in t n = locals_at t 65184 n
 abbrev pub stack_in : List ℕ → ℕ → List Ty
 stack_in t n = locals_at t 65216 n
 
-abbrev pub drawn_as : List ℕ → ℕ → Drawn → Res Written
-drawn_as u k r = cond r.ok (ok (written r.delta (list_in u r.locals) (stack_in u r.stack)) r.at) (bad 14 k)
+abbrev pub written_in : List ℕ → Drawn → Written
+written_in u r = written r.delta (list_in u r.locals) (stack_in u r.stack)
+
+abbrev pub drawn_as : List ℕ → Result (Got Drawn) faults.Fault → Res Written
+drawn_as u r = res_as (written_in u) r
 
 -- no larger than the method's limits
 unfoldable pub sized : Site → ℕ → Written → ℕ → Res Written
@@ -41,8 +48,9 @@ module _ (s t : List ℕ) (x : Site) (f : List ℕ) (k : ℕ) where
   full_by d q = full_at (program_at s (front t) x) (method_at s (front t) x) (lines_at s t x) f k d q
 
 -- what a form gives, within the limits; only the words at hand change
-pub record Drew (s t : List ℕ) (x : Site) (k : ℕ) (form : Res Written) (r : Drawn) (u : List ℕ) : Type 0 where
-  pub is : drawn_as u k r ≡ and_then form (sized x k)
+pub record Drew (s t : List ℕ) (x : Site) (k : ℕ) (form : Res Written) (r : Result (Got Drawn) faults.Fault) (u : List ℕ) : Type 0 where
+  pub is : drawn_as u r ≡ and_then form (sized x k)
+  pub wrong : IfErr r (λ e. (number e.0 ≡ 14) × (e.1 ≡ k))
   pub besides : Besides 65184 64 t u
-  pub locals : r.ok ≡ true → r.locals ≤ x.locals
-  pub stack : r.ok ≡ true → r.stack ≤ x.stack
+  pub locals : IfOk r (λ g. g.val.locals ≤ x.locals)
+  pub stack : IfOk r (λ g. g.val.stack ≤ x.stack)

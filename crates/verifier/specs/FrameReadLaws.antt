@@ -1,19 +1,19 @@
 -- Laws of reading the frame table: a type by its tag. Assumes nothing.
-use Rattle.std.specs.Prelude.{ℕ, ◌+◌, ◌-◌, ◌/◌, ◌%◌, ◌<◌, ◌≤◌, ◌≡◌, refl, Bool, true, cond, List, ◌⊎◌, eqb, leb, length, get_or}
-use Rattle.std.proofs.Math.Path.{sym}
-use Rattle.std.proofs.Common.{ap, ◌∙◌, inl, inr, arith, ne_eqb, lt-ltb, le-ltb}
-use Rattle.std.proofs.Math.Bool.{false}
+use Rattle.std.specs.Prelude.{ℕ, ◌+◌, ◌-◌, ◌/◌, ◌%◌, ◌<◌, ◌≤◌, ◌≡◌, refl, Result, IsErrAnd, Bool, true, cond, List, ◌⊎◌, eqb, length, get_or}
+use Rattle.std.proofs.Common.{ap, ◌∙◌, inl, inr, arith, ne_eqb, lt-ltb, le-ltb, sym, false}
 use Rattle.kit.specs.Bools.{not_so}
 use Rattle.kit.specs.Pick.{side}
-use Rattle.texts.specs.Reading.{Res, ok, bad, and_then, num2_at, u2_at, u4_at}
-use Rattle.texts.specs.Answers.{res, is_ok_lem}
+use Rattle.texts.specs.Reading.{Res, ok, bad, and_then, num2_at, u4_at}
+use Rattle.texts.specs.Answers.{t_stop}
+use Rattle.texts.specs.Faults.{number}
 use Rattle.classfiles.specs.Descriptors.{Ref}
 use Rattle.reader.specs.Program.{Program, Method, class}
-use Rattle.texts.specs.declared.items.Got.{Got}
-use Rattle.rules.specs.Resolve.{Resolved, by, nothing, number, field, method_of, resolve}
+use Rattle.texts.specs.declared.faults.Got.{Got}
+use Rattle.texts.specs.declared.faults.Fault as faults
+use Rattle.rules.specs.declared.types.Ty as words
+use Rattle.rules.specs.Resolve.{Resolved, by, nothing, number as numeral, field, method_of, resolve}
 use Rattle.rules.specs.Lines.{Line, is_new_at}
 use Rattle.rules.specs.Types.{at, self, Ty, top, int, null, ini, uninit}
-use Rattle.rules.specs.TypeWords.{type_of}
 use Rattle.rules.specs.TypeCodes.{code_ref}
 use Rattle.rules.specs.ResolvedWords.{field_in, method_in, resolved_as, resolved_of, word_of}
 use Rattle.rules.specs.DecodeLaws.{is_type}
@@ -22,7 +22,7 @@ use Rattle.rules.specs.Sites.{front, program_at, method_at}
 use Rattle.shaping.specs.SiteLaws.{word-front}
 use Rattle.shaping.specs.Marks.{lines_at}
 use Rattle.shaping.specs.MarkLaws.{new_past}
-use Rattle.verifier.specs.FrameReading.{ok_type, wrong_type, type_named, type_classed, type_made, type_tagged, type_at, Readable}
+use Rattle.verifier.specs.FrameReading.{typed_as, wrong_type, type_named, type_classed, type_made, type_tagged, type_at, Readable}
 use Rattle.rules.specs.declared.site.Site.{Site}
 
 -- a word of another kind
@@ -30,23 +30,11 @@ no_type : {A : Type 0} (n : A) (make : Ref → A) (v w : ℕ) → (w % 8 ≡ 2 �
 unfolding resolved_as
 no_type n make v w h = rw (ne_eqb (w % 8) 2 h) (go (eqb (w % 8) 1) (eqb (w % 8) 3) (eqb (w % 8) 4))
   where
-    go : (a b d : Bool) → by n (λ x. n) make (λ f. n) (λ m. n) (cond a (number v) (cond b (field (field_in w)) (cond d (method_of (method_in w)) nothing))) ≡ n
+    go : (a b d : Bool) → by n (λ x. n) make (λ f. n) (λ m. n) (cond a (numeral v) (cond b (field (field_in w)) (cond d (method_of (method_in w)) nothing))) ≡ n
     go true b d = refl
     go false true d = refl
     go false false true = refl
     go false false false = refl
-
--- a number that is cut
-num-cut : (f : List ℕ) (e n p q : ℕ) (a : Got) → res a ≡ num2_at f e n p q → a.ok ≡ false → num2_at f e n p q ≡ bad n p
-unfolding num2_at
-num-cut f e n p q a h z = go (leb (q + 2) e) refl
-  where
-    go : (b : Bool) → leb (q + 2) e ≡ b → cond b (ok (u2_at f q) (q + 2)) (bad n p) ≡ bad n p
-    go false r = refl
-    go true r =
-        let y : bad a.val a.at ≡ ok (u2_at f q) (q + 2) = sym (rw z) ∙ h ∙ rw r in
-        let u : ◌≡◌ {A = ℕ} 0 1 = cc in
-        absurd (omega arith)
 
 module _ (s t : List ℕ) (x : Site) (y : Readable s t x) where
   abbrev P : Program
@@ -63,7 +51,7 @@ module _ (s t : List ℕ) (x : Site) (y : Readable s t x) where
       sym (y.marked.here.sited.named i) ∙ ap (resolved_of s) (word-front t x.class i ∙ sym e)
 
   module _ (k i e w : ℕ) (ew : w ≡ word_of t x.class i) where
-    pub named_yes : (v : ℕ) → w % 8 ≡ 2 → type_of v ≡ ini (code_ref (w / 8 % 256)) → ok_type v e ≡ type_named s t x k i e
+    pub named_yes : (v : Ty) → w % 8 ≡ 2 → v ≡ ini (code_ref (w / 8 % 256)) → ok v e ≡ type_named s t x k i e
     unfolding type_named
     named_yes v z h = rw (names i w ew, is_type (u4_at s (w / 8 + 1)) w z, h)
 
@@ -71,36 +59,38 @@ module _ (s t : List ℕ) (x : Site) (y : Readable s t x) where
     unfolding type_named
     named_no z = sym (ap (λ (r : Resolved). class_ty P M all s k r e) (names i w ew) ∙ no_type (bad 14 k) (λ r. ok (ini r) e) (u4_at s (w / 8 + 1)) w z)
 
-  module _ (f : List ℕ) (k q : ℕ) (a : Got) (h : res a ≡ num2_at f (length f) 14 k q) where
-    pub class_yes : (R : Res Ty) → a.ok ≡ true → R ≡ type_named s t x k a.val a.at → R ≡ type_classed s t x f k q
-    unfolding type_classed number_at and_then
-    class_yes R z e = rw (is_ok_lem _ a a.val h z) e
+  module _ (f : List ℕ) (k q : ℕ) where
+    -- the number behind the tag was cut
+    pub class-cut : (r : Result (Got words.Ty) faults.Fault) (e : faults.Fault) → IsErrAnd r (λ z. z ≡ e) → bad (number e.0) e.1 ≡ num2_at f (length f) 14 k q → typed_as r ≡ type_classed s t x f k q
+    unfolding type_classed number_at
+    class-cut r e p h = t_stop _ _ _ r e p h
 
-    pub class-cut : a.ok ≡ false → wrong_type k ≡ type_classed s t x f k q
-    unfolding type_classed number_at and_then
-    class-cut z = rw (num-cut f (length f) 14 k q a h z)
+    pub made-cut : (r : Result (Got words.Ty) faults.Fault) (e : faults.Fault) → IsErrAnd r (λ z. z ≡ e) → bad (number e.0) e.1 ≡ num2_at f (length f) 14 k q → typed_as r ≡ type_made s t x f k q
+    unfolding type_made number_at
+    made-cut r e p h = t_stop _ _ _ r e p h
 
-    pub made-cut : a.ok ≡ false → wrong_type k ≡ type_made s t x f k q
-    unfolding type_made number_at and_then
-    made-cut z = rw (num-cut f (length f) 14 k q a h z)
+    module _ (i a : ℕ) (h : ok i a ≡ num2_at f (length f) 14 k q) where
+      pub class_yes : (R : Res Ty) → R ≡ type_named s t x k i a → R ≡ type_classed s t x f k q
+      unfolding type_classed number_at and_then
+      class_yes R e = rw (← h) e
 
-    module _ (z : a.ok ≡ true) (b : Bool) (eb : b ≡ is_new_at all a.val) where
-      pub made_no : b ≡ false → wrong_type k ≡ type_made s t x f k q
-      unfolding type_made number_at and_then
-      made_no n = rw (is_ok_lem _ a a.val h z, ← eb, n)
+      module _ (b : Bool) (eb : b ≡ is_new_at all i) where
+        pub made_no : b ≡ false → wrong_type k ≡ type_made s t x f k q
+        unfolding type_made number_at and_then
+        made_no n = rw (← h, ← eb, n)
 
-      pub made_yes : (v : ℕ) → b ≡ true → type_of v ≡ uninit (at (a.val % 65536)) → ok_type v a.at ≡ type_made s t x f k q
-      unfolding type_made number_at and_then
-      made_yes v n e =
-          let l : a.val < x.end - x.start = inside (side a.val (x.end - x.start)) in
-          let m : a.val % 65536 ≡ a.val = omega (arith, y.marked.here.bounded.size) in
-          rw (is_ok_lem _ a a.val h z, ← eb, n, e, m)
-        where
-          inside : (a.val < x.end - x.start) ⊎ (x.end - x.start ≤ a.val) → a.val < x.end - x.start
-          inside (inl l) = l
-          inside (inr l) =
-              let d : false ≡ is_new_at all a.val = new_past all (x.end - x.start) a.val t y.marked.marks l in
-              absurd (not_so (d ∙ sym eb ∙ n))
+        pub made_yes : (v : Ty) → b ≡ true → v ≡ uninit (at (i % 65536)) → ok v a ≡ type_made s t x f k q
+        unfolding type_made number_at and_then
+        made_yes v n e =
+            let l : i < x.end - x.start = inside (side i (x.end - x.start)) in
+            let m : i % 65536 ≡ i = omega (arith, y.marked.here.bounded.size) in
+            rw (← h, ← eb, n, e, m)
+          where
+            inside : (i < x.end - x.start) ⊎ (x.end - x.start ≤ i) → i < x.end - x.start
+            inside (inl l) = l
+            inside (inr l) =
+                let d : false ≡ is_new_at all i = new_past all (x.end - x.start) i t y.marked.marks l in
+                absurd (not_so (d ∙ sym eb ∙ n))
 
   -- ---- by the tag
   module _ (f : List ℕ) (k tag e : ℕ) where
@@ -113,21 +103,17 @@ module _ (s t : List ℕ) (x : Site) (y : Readable s t x) where
     unfolding type_tagged tagged_at type_classed type_made type_named
     tagged_is = rw y.init
 
-    pub tagged-top : tag ≡ 0 → ok_type 0 e ≡ type_tagged s t x f k tag e
-    unfolding type_of
-    tagged-top z = sym (tagged_is ∙ rw z)
+    pub tagged-top : (v : Ty) → tag ≡ 0 → v ≡ top → ok v e ≡ type_tagged s t x f k tag e
+    tagged-top v z q = rw q (sym (tagged_is ∙ rw z))
 
-    pub tagged-int : tag ≡ 1 → ok_type 1 e ≡ type_tagged s t x f k tag e
-    unfolding type_of
-    tagged-int z = sym (tagged_is ∙ rw z)
+    pub tagged-int : (v : Ty) → tag ≡ 1 → v ≡ int → ok v e ≡ type_tagged s t x f k tag e
+    tagged-int v z q = rw q (sym (tagged_is ∙ rw z))
 
-    pub tagged-null : tag ≡ 5 → ok_type 2 e ≡ type_tagged s t x f k tag e
-    unfolding type_of
-    tagged-null z = sym (tagged_is ∙ rw z)
+    pub tagged-null : (v : Ty) → tag ≡ 5 → v ≡ null → ok v e ≡ type_tagged s t x f k tag e
+    tagged-null v z q = rw q (sym (tagged_is ∙ rw z))
 
-    pub tagged_this : tag ≡ 6 → x.constructor ≡ true → ok_type 6 e ≡ type_tagged s t x f k tag e
-    unfolding type_of
-    tagged_this z c = sym (tagged_is ∙ rw (z, c))
+    pub tagged_this : (v : Ty) → tag ≡ 6 → x.constructor ≡ true → v ≡ uninit self → ok v e ≡ type_tagged s t x f k tag e
+    tagged_this v z c q = rw q (sym (tagged_is ∙ rw (z, c)))
 
     pub tagged_that : tag ≡ 6 → x.constructor ≡ false → wrong_type k ≡ type_tagged s t x f k tag e
     tagged_that z c = sym (tagged_is ∙ rw (z, c))

@@ -1,6 +1,7 @@
 -- The frame table's parts at a method's site, as the code reads them.
-use Rattle.std.specs.Prelude.{ℕ, cond, List}
+use Rattle.std.specs.Prelude.{ℕ, Result, cond, List}
 use Rattle.texts.specs.Reading.{Res, ok, bad, and_then}
+use Rattle.texts.specs.Answers.{res_as}
 use Rattle.reader.specs.Program.{class}
 use Rattle.rules.specs.Resolve.{resolve}
 use Rattle.rules.specs.Lines.{is_new_at}
@@ -10,16 +11,20 @@ use Rattle.rules.specs.Frames.{number_at, class_ty, tagged_at, info_at}
 use Rattle.rules.specs.Sites.{front, program_at, method_at, KnowsInit}
 use Rattle.shaping.specs.Marks.{lines_at, Ready}
 use Rattle.rules.specs.declared.site.Site.{Site}
+use Rattle.rules.specs.declared.types.Ty as words
+use Rattle.texts.specs.declared.faults.Got.{Got}
+use Rattle.texts.specs.declared.faults.Fault as faults
 
 -- what the reader asks: the method's marks, and whether it is a constructor
 pub record Readable (s t : List ℕ) (x : Site) : Type 0 where
   pub marked : Ready s t x
   pub init : KnowsInit s (front t) x
 
--- a type's word; whatever is wrong with frame k
-abbrev pub ok_type : ℕ → ℕ → Res Ty
-ok_type w e = ok (type_of w) e
+-- a type that was read
+abbrev pub typed_as : Result (Got words.Ty) faults.Fault → Res Ty
+typed_as r = res_as (λ w. type_of w.word) r
 
+-- whatever is wrong with frame k
 abbrev pub wrong_type : ℕ → Res Ty
 wrong_type k = bad 14 k
 

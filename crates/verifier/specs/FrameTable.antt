@@ -1,6 +1,8 @@
 -- The frame table read into rows of words, held to the definition's. Assumes nothing.
-use Rattle.std.specs.Prelude.{ℕ, ◌+◌, ◌-◌, ◌*◌, ◌<◌, ◌≤◌, ◌≡◌, true, false, cond, List, length}
-use Rattle.texts.specs.Reading.{Res, ok, bad, pre}
+use Rattle.std.specs.Prelude.{ℕ, ◌+◌, ◌-◌, ◌*◌, ◌<◌, ◌≤◌, ◌≡◌, Result, IfOk, IfErr, List, length}
+use Rattle.texts.specs.Reading.{Res, pre}
+use Rattle.texts.specs.Answers.{res_as}
+use Rattle.texts.specs.Faults.{number}
 use Rattle.kit.specs.Words.{word}
 use Rattle.rules.specs.Frames.{Frame, frames_from, table_at, frames}
 use Rattle.rules.specs.FrameRows.{frames_at, frames_of, Laid}
@@ -10,21 +12,25 @@ use Rattle.verifier.specs.FrameReading.{Readable}
 use Rattle.verifier.specs.Drawing.{list_in}
 use Rattle.rules.specs.declared.site.Site.{Site}
 use Rattle.rules.specs.declared.frames.Rows.{Rows}
-use Rattle.verifier.specs.declared.frame_table.Framed.{Framed}
+use Rattle.texts.specs.declared.faults.Got.{Got}
+use Rattle.texts.specs.declared.faults.Fault as faults
 
--- n rows of a method of z locals; and where frame k is wrong
+-- n rows of a method of z locals, with the position past them
 abbrev pub rows_of : ℕ → ℕ → Rows
 rows_of n z = record { at = 46752; count = n; locals = z }
 
-abbrev pub listing : ℕ → ℕ → ℕ → Framed
-listing n z e = record { ok = true; rows = rows_of n z; place = e }
+abbrev pub listing : ℕ → ℕ → ℕ → Got Rows
+listing n z e = record { val = rows_of n z; at = e }
 
-abbrev pub refusing : ℕ → Framed
-refusing k = record { ok = false; rows = rows_of 0 0; place = k }
+-- what an answer says: the frames in its rows and the position past them, or the fault
+abbrev pub framed_as : List ℕ → Result (Got Rows) faults.Fault → Res (List Frame)
+framed_as u r = res_as (frames_of u) r
 
--- what an answer says: the frames in its rows and the position past them, or 14
-abbrev pub framed_as : List ℕ → Framed → Res (List Frame)
-framed_as u r = cond r.ok (ok (frames_of u r.rows) r.place) (bad 14 r.place)
+-- rows that the walk may use
+pub record Usable (x : Site) (u : List ℕ) (g : Rows) : Type 0 where
+  pub laid : Laid u g
+  pub room : g.at + 68 * g.count + 68 ≤ 65184
+  pub locals : g.locals ≡ x.locals
 
 -- n frames from q on, the first with m locals before it; the table f whole
 module _ (s t : List ℕ) (x : Site) (f : List ℕ) where
@@ -35,13 +41,12 @@ module _ (s t : List ℕ) (x : Site) (f : List ℕ) where
   table_by = table_at (program_at s (front t) x) (method_at s (front t) x) (lines_at s t x) f
 
 -- what is read stands in rows, and what the walk asks of the scratch still holds
-pub record Listed (s t : List ℕ) (x : Site) (table : Res (List Frame)) (r : Framed) (u : List ℕ) : Type 0 where
+pub record Listed (s t : List ℕ) (x : Site) (table : Res (List Frame)) (r : Result (Got Rows) faults.Fault) (u : List ℕ) : Type 0 where
   pub is : framed_as u r ≡ table
+  pub wrong : IfErr r (λ e. number e.0 ≡ 14)
   pub front : front u ≡ front t
   pub ready : Readable s u x
-  pub laid : r.ok ≡ true → Laid u r.rows
-  pub room : r.ok ≡ true → r.rows.at + 68 * r.rows.count + 68 ≤ 65184
-  pub locals : r.ok ≡ true → r.rows.locals ≡ x.locals
+  pub rows : IfOk r (λ g. Usable x u g.val)
 
 -- k of n frames stand in rows; the next stands at `at`, with l locals before it, and a delta of 0 leads to `from`
 pub record RowsRead (s t : List ℕ) (x : Site) (f : List ℕ) (n m q : ℕ) (u : List ℕ) (k from l at : ℕ) : Type 0 where
@@ -57,19 +62,14 @@ pub record RowsRead (s t : List ℕ) (x : Site) (f : List ℕ) (n m q : ℕ) (u 
   pub rising : (i j : ℕ) → i < j → j < k → word u (46752 + 68 * i + 64) < word u (46752 + 68 * j + 64)
   pub under : (i : ℕ) → i < k → word u (46752 + 68 * i + 64) < from
 
--- the definition's frames of the method that the scratch stands for; frame k is wrong
+-- the definition's frames of the method that the scratch stands for
 abbrev pub frames_on : List ℕ → List ℕ → Site → Res (List Frame)
 frames_on s u x = frames (program_at s (front u) x) (method_at s (front u) x)
 
-abbrev pub wrong_frame : ℕ → Res (List Frame)
-wrong_frame k = bad 14 k
-
--- the frames of the method at x: in rows, with the position past them, or 14 at a frame
-pub record FramesRead (s t : List ℕ) (x : Site) (r : Framed) (u : List ℕ) : Type 0 where
+-- the frames of the method at x: in rows, with the position past them, or the fault
+pub record FramesRead (s t : List ℕ) (x : Site) (r : Result (Got Rows) faults.Fault) (u : List ℕ) : Type 0 where
   pub front : front u ≡ front t
-  pub good : r.ok ≡ true → frames_on s u x ≡ ok (frames_of u r.rows) r.place
-  pub bad : r.ok ≡ false → frames_on s u x ≡ wrong_frame r.place
-  pub laid : r.ok ≡ true → Laid u r.rows
-  pub room : r.ok ≡ true → r.rows.at + 68 * r.rows.count + 68 ≤ 65184
-  pub locals : r.ok ≡ true → r.rows.locals ≡ x.locals
+  pub is : framed_as u r ≡ frames_on s u x
+  pub wrong : IfErr r (λ e. number e.0 ≡ 14)
+  pub rows : IfOk r (λ g. Usable x u g.val)
   pub ready : Readable s u x

@@ -1,27 +1,17 @@
 -- Laws of the frame table as it is read: the loop over frames, the start's list, the table whole. Assumes nothing.
-use Prim.Native.Nat.{ℕ, zero, suc, ◌+◌, ◌-◌, ◌*◌, ◌/◌, ◌<◌, ◌≤◌}
-use Rattle.std.specs.Prelude.{◌≡◌, Bool, cond, not, ◌⊎◌, eqb, leb, take, get_or}
-use Rattle.std.proofs.Math.Path.{refl, sym, ap}
-use Rattle.std.proofs.Common.{◌∙◌, inl, inr, get_or-take}
-use Rattle.std.proofs.Math.Bool.{true, false}
-use mathlib.Core.List.{List, [], ◌∷◌, ◌++◌, append-nil}
-use native.Mathlib.Omega.{arith}
-use Rattle.std.proofs.Math.Numerals.{add-one}
-use Rattle.std.proofs.Math.ListN.{length, replicate, get_or-eq_default}
-use Rattle.std.proofs.Math.Seq.{take_at}
-use borrow.Author.Tests.{eq-eqb, ne_eqb, lt-ltb, le-ltb, not-true, not-false}
-use Rattle.kit.specs.Bools.{not_so}
+use Rattle.std.specs.Prelude.{◌≡◌, Result, Ok, Err, IsErrAnd, Bool, cond, ◌⊎◌, eqb, take, get_or}
+use Rattle.std.proofs.Common.{◌∙◌, inl, inr, get_or-take, ℕ, zero, suc, ◌+◌, ◌-◌, ◌*◌, ◌/◌, ◌<◌, ◌≤◌, refl, sym, ap, true, false, List, [], ◌∷◌, ◌++◌, append-nil, arith, add-one, length, replicate, take_at, eq-eqb, ne_eqb, lt-ltb, le-ltb}
+use Rattle.std.proofs.Math.ListN.{get_or-eq_default}
 use Rattle.kit.specs.Pick.{side}
 use Rattle.kit.specs.Words.{word}
-use Rattle.texts.specs.Reading.{Res, ok, bad, and_then, pre, u2_at, num2_at}
-use Rattle.texts.specs.Answers.{res, no_ok, no_bad}
+use Rattle.texts.specs.Reading.{Res, ok, bad, and_then, pre, num2_at}
+use Rattle.texts.specs.Faults.{number}
 use Rattle.classfiles.specs.Loops.{pre_nil, pre-pre}
 use Rattle.classfiles.specs.Descriptors.{Desc}
 use Rattle.classfiles.specs.Members.{none, once, twice, Body}
 use Rattle.classfiles.specs.Attributes.{found_of}
 use Rattle.reader.specs.TypeCodes.{params_in}
 use Rattle.reader.specs.Program.{Program, Method}
-use Rattle.texts.specs.declared.items.Got.{Got}
 use Rattle.rules.specs.Opcodes.{body}
 use Rattle.rules.specs.Lines.{Line, lines}
 use Rattle.rules.specs.Types.{Ty, top, tys_of}
@@ -29,24 +19,28 @@ use Rattle.rules.specs.States.{State, state, padded, parameter_tys, start_state}
 use Rattle.rules.specs.Slots.{locals_at, held}
 use Rattle.rules.specs.SlotLaws.{length_locals}
 use Rattle.rules.specs.Frames.{Frame, frame, Written, written, state_of, frame_at, frames_from, table_at, frames_in, frames}
-use Rattle.rules.specs.FrameRows.{row_held, frames_at, frames_of}
+use Rattle.rules.specs.FrameRows.{row_held, frames_at}
 use Rattle.rules.specs.Sites.{front, site_frames, site_body, Sited, program_at, method_at}
 use Rattle.shaping.specs.ScanLaws.{body_here}
 use Rattle.shaping.specs.Marks.{lines_at}
 use Rattle.rules.specs.StepClaims.{frames_outside}
 use Rattle.verifier.specs.FrameReading.{Readable}
 use Rattle.verifier.specs.Besides.{Besides, besides_word, besides_locals, besides_front, besides_readable}
-use Rattle.verifier.specs.Drawing.{list_in, stack_in, drawn_as}
+use Rattle.verifier.specs.Drawing.{list_in, stack_in}
 use Rattle.verifier.specs.Starts.{entry_at, start_tys, start-tys, Started}
 use Rattle.verifier.specs.MethodWalks.{Placeable}
 use Rattle.verifier.specs.WalkHere.{sited_whole}
 use Rattle.rules.specs.declared.site.Site.{Site}
 use Rattle.rules.specs.declared.slots.Held.{Held}
+use Rattle.rules.specs.declared.frames.Rows.{Rows}
 use Rattle.verifier.specs.declared.frame_reader.Drawn.{Drawn}
 use Rattle.verifier.specs.Framing.{frame_by, Framing}
 use Rattle.verifier.specs.RowWrites.{RowPut, locals-append}
-use Rattle.verifier.specs.FrameTable.{rows_of, listing, refusing, framed_as, frames_by, table_by, Listed, RowsRead, FramesRead}
-use Rattle.verifier.specs.declared.frame_table.Framed.{Framed}
+use Rattle.verifier.specs.FullLaws.{cut_fault}
+use Rattle.verifier.specs.FrameTable.{rows_of, listing, frames_by, table_by, Listed, RowsRead, FramesRead}
+use Rattle.texts.specs.declared.faults.Got.{Got}
+use Rattle.texts.specs.declared.faults.Fault as faults
+use Rattle.texts.specs.declared.faults.Refusal.TheVariants.{FrameTable}
 
 -- ---- the definition's turns
 module _ (P : Program) (M : Method) (L : List Line) (f : List ℕ) (k from : ℕ) (l : List Ty) (q : ℕ) where
@@ -76,22 +70,14 @@ frames_more u z x (suc k) =
     ap (λ (l : List Frame). frame (word u (x + 64)) (held u (row_held u z x)) ∷ l)
     (frames_more u z (x + 68) k ∙ ap (λ (j : ℕ). frames_at u z (x + 68) k ++ (frame (word u (j + 64)) (held u (row_held u z j)) ∷ [])) e)
 
-drawn_ok : (u : List ℕ) (k : ℕ) (r : Drawn) (F : Res Written) → drawn_as u k r ≡ F → not r.ok ≡ false
-    → F ≡ ok (written r.delta (list_in u r.locals) (stack_in u r.stack)) r.at
-drawn_ok u k r F h e = sym h ∙ go r.ok (not-false r.ok e)
-  where
-    go : (b : Bool) → b ≡ true → cond b (ok (written r.delta (list_in u r.locals) (stack_in u r.stack)) r.at) (bad 14 k) ≡ ok (written r.delta (list_in u r.locals) (stack_in u r.stack)) r.at
-    go b z = rw z
-
-drawn_bad : (u : List ℕ) (k : ℕ) (r : Drawn) (F : Res Written) → drawn_as u k r ≡ F → not r.ok ≡ true → F ≡ bad 14 k
-drawn_bad u k r F h e = sym h ∙ go r.ok (not-true r.ok e)
-  where
-    go : (b : Bool) → b ≡ false → cond b (ok (written r.delta (list_in u r.locals) (stack_in u r.stack)) r.at) (bad 14 k) ≡ bad 14 k
-    go b z = rw z
-
 -- a refusal
-refused-listed : (s t : List ℕ) (x : Site) (T : Res (List Frame)) (r : Framed) (u : List ℕ) (k : ℕ) → r ≡ refusing k → T ≡ bad 14 k → front u ≡ front t → Readable s u x → Listed s t x T r u
-refused-listed s t x T r u k e h f y = rw e (record { is = sym h; front = f; ready = y; laid = λ z. absurd (not_so z); room = λ z. absurd (not_so z); locals = λ z. absurd (not_so z) })
+refused-listed : (s t : List ℕ) (x : Site) (T : Res (List Frame)) (u : List ℕ) (k : ℕ) → T ≡ bad 14 k → front u ≡ front t → Readable s u x → Listed s t x T (Err (record { 0 = FrameTable; 1 = k })) u
+refused-listed s t x T u k h f y = record { is = sym h; wrong = refl; front = f; ready = y; rows = tt }
+
+stopped-listed : (s t : List ℕ) (x : Site) (T : Res (List Frame)) (u : List ℕ) (r : Result (Got Rows) faults.Fault) (e : faults.Fault) → IsErrAnd r (λ z. z ≡ e) → T ≡ bad (number e.0) e.1 → number e.0 ≡ 14 → front u ≡ front t → Readable s u x
+    → Listed s t x T r u
+stopped-listed s t x T u (Ok a) e p h w f y = absurd p
+stopped-listed s t x T u (Err z) e p h w f y = record { is = rw p (sym h); wrong = rw p w; front = f; ready = y; rows = tt }
 
 -- ---- the loop over frames
 module _ (s t : List ℕ) (x : Site) (f : List ℕ) (n m q : ℕ) where
@@ -125,33 +111,36 @@ module _ (s t : List ℕ) (x : Site) (f : List ℕ) (n m q : ℕ) where
     all_read : n ≤ k → k ≡ n
     all_read h = omega (arith, z.few)
 
-    pub rows_left : (r : Framed) → n ≤ k → (at ≡ length f → ⊥) → r ≡ refusing n → Listed s t x (frames_by s t x f n m q) r u
+    pub rows_left : n ≤ k → (at ≡ length f → ⊥) → Listed s t x (frames_by s t x f n m q) (Err (record { 0 = FrameTable; 1 = n })) u
     unfolding pre
-    rows_left r h e d =
-        refused-listed s t x (frames_by s t x f n m q) r u n d
+    rows_left h e =
+        refused-listed s t x (frames_by s t x f n m q) u n
         (sym z.is ∙ ap (λ (j : ℕ). pre (frames_at u x.locals 46752 k) (frames_from P M L f j k from (list_in u l) at)) (none_left h)
         ∙ ap (pre (frames_at u x.locals 46752 k)) (turn_left P M L f k from (list_in u l) at e) ∙ ap (λ (j : ℕ). bad 14 j) (all_read h))
         z.front z.ready
 
-    pub rows_done : (r : Framed) → n ≤ 256 → n ≤ k → at ≡ length f → r ≡ listing n x.locals at → Listed s t x (frames_by s t x f n m q) r u
+    pub rows_done : (r : Got Rows) → n ≤ 256 → n ≤ k → at ≡ length f → r ≡ listing n x.locals at → Listed s t x (frames_by s t x f n m q) (Ok r) u
     unfolding pre
     rows_done r g h e d = rw d (record {
       is =
           sym (sym z.is ∙ ap (λ (j : ℕ). pre (frames_at u x.locals 46752 k) (frames_from P M L f j k from (list_in u l) at)) (none_left h)
           ∙ ap (pre (frames_at u x.locals 46752 k)) (turn_end P M L f k from (list_in u l) at e)
           ∙ ap (λ (fs : List Frame). ok fs at) (append-nil (frames_at u x.locals 46752 k)) ∙ ap (λ (j : ℕ). ok (frames_at u x.locals 46752 j) at) (all_read h));
+      wrong = tt;
       front = z.front;
       ready = z.ready;
-      laid = λ y. record {
-        inside = omega (arith, z.ready.marked.long);
-        locals = z.ready.marked.here.bounded.locals;
-        rising = λ i j a b. z.rising i j a (omega arith);
+      rows = record {
+        laid = record {
+          inside = omega (arith, z.ready.marked.long);
+          locals = z.ready.marked.here.bounded.locals;
+          rising = λ i j a b. z.rising i j a (omega arith);
+        };
+        room = omega arith;
+        locals = refl;
       };
-      room = λ y. omega arith;
-      locals = λ y. refl;
     })
 
-    module _ (h : k < n) (r : Drawn) (v : List ℕ) (y : Framing s u x f k from l at r v) where
+    module _ (h : k < n) where
       one_less : n - k ≡ suc (n - (k + 1))
       one_less = omega arith
 
@@ -159,105 +148,106 @@ module _ (s t : List ℕ) (x : Site) (f : List ℕ) (n m q : ℕ) where
       unfolding frame_by lines_at
       same_frame = ap (λ (g : List ℕ). frame_at (program_at s g x) (method_at s g x) (lines (program_at s g x) (method_at s g x)) f k from (list_in u l) at) z.front
 
-      front_now : front v ≡ front t
-      front_now = besides_front 65184 64 u v y.besides (omega arith) ∙ z.front
+      module _ (v : List ℕ) (bs : Besides 65184 64 u v) where
+        front_now : front v ≡ front t
+        front_now = besides_front 65184 64 u v bs (omega arith) ∙ z.front
 
-      ready_now : Readable s v x
-      ready_now = besides_readable 65184 64 u v y.besides (omega arith) s x (inr (omega arith)) z.ready
+        ready_now : Readable s v x
+        ready_now = besides_readable 65184 64 u v bs (omega arith) s x (inr (omega arith)) z.ready
 
-      pub rows_stop : (d : Framed) → not r.ok ≡ true → d ≡ refusing k → Listed s t x (frames_by s t x f n m q) d v
+      pub rows_stop : (v : List ℕ) (e : faults.Fault) → Framing s u x f k from l at (Err e) v → (d : Result (Got Rows) faults.Fault) → IsErrAnd d (λ j. j ≡ e) → Listed s t x (frames_by s t x f n m q) d v
       unfolding pre
-      rows_stop d e g =
-          refused-listed s t x (frames_by s t x f n m q) d v k g
+      rows_stop v e y d p =
+          stopped-listed s t x (frames_by s t x f n m q) v d e p
           (sym z.is ∙ ap (λ (j : ℕ). pre (frames_at u x.locals 46752 k) (frames_from P M L f j k from (list_in u l) at)) one_less
-          ∙ ap (pre (frames_at u x.locals 46752 k)) (turn_bad P M L f k from (list_in u l) at (n - (k + 1)) 14 k (sym same_frame ∙ drawn_bad v k r _ y.is e)))
-          front_now ready_now
+          ∙ ap (pre (frames_at u x.locals 46752 k)) (turn_bad P M L f k from (list_in u l) at (n - (k + 1)) (number e.0) e.1 (sym same_frame ∙ sym y.is)))
+          y.wrong.0 (front_now v y.besides) (ready_now v y.besides)
 
-      -- what put_row asks
-      module _ (e : not r.ok ≡ false) (b : n ≤ 256) where
-        good : r.ok ≡ true
-        good = not-false r.ok e
+    -- what put_row asks
+    module _ (h : k < n) (g : Got Drawn) (v : List ℕ) (y : Framing s u x f k from l at (Ok g) v) (b : n ≤ 256) where
+      abbrev r : Drawn
+      r = g.val
 
-        pub row-asked :
-            (r.locals ≤ x.locals) × (x.locals ≤ 32) × (r.stack ≤ 32) × (from + r.delta < 65536) × (46752 + 68 * k + 68 ≤ 65184) × (65288 ≤ length v / 4)
-        row-asked =
-            (y.locals good, z.ready.marked.here.bounded.locals, omega (arith, y.stack good, z.ready.marked.here.bounded.stack), y.offset good, omega arith, omega (arith, ready_now.marked.long))
+      pub row-asked :
+          (r.locals ≤ x.locals) × (x.locals ≤ 32) × (r.stack ≤ 32) × (from + r.delta < 65536) × (46752 + 68 * k + 68 ≤ 65184) × (65288 ≤ length v / 4)
+      row-asked =
+          (y.locals, z.ready.marked.here.bounded.locals, omega (arith, y.stack, z.ready.marked.here.bounded.stack), y.offset, omega arith, omega (arith, (ready_now h v y.besides).marked.long))
 
-        module _ (w : List ℕ) (p : RowPut v (46752 + 68 * k) x.locals r.locals r.stack (from + r.delta) w) where
-          word_kept : (j : ℕ) → j < 46752 + 68 * k → word w j ≡ word u j
-          word_kept j a = besides_word (46752 + 68 * k) 68 v w p.besides j (inl a) ∙ besides_word 65184 64 u v y.besides j (inl (omega arith))
+      module _ (w : List ℕ) (p : RowPut v (46752 + 68 * k) x.locals r.locals r.stack (from + r.delta) w) where
+        word_kept : (j : ℕ) → j < 46752 + 68 * k → word w j ≡ word u j
+        word_kept j a = besides_word (46752 + 68 * k) 68 v w p.besides j (inl a) ∙ besides_word 65184 64 u v y.besides j (inl (omega arith))
 
-          frames_kept : frames_at w x.locals 46752 k ≡ frames_at u x.locals 46752 k
-          frames_kept = frames_outside (46752 + 68 * k) u w word_kept (rows_of k x.locals) z.ready.marked.here.bounded.locals (omega arith)
+        frames_kept : frames_at w x.locals 46752 k ≡ frames_at u x.locals 46752 k
+        frames_kept = frames_outside (46752 + 68 * k) u w word_kept (rows_of k x.locals) z.ready.marked.here.bounded.locals (omega arith)
 
-          list_kept : list_in w r.locals ≡ list_in v r.locals
-          list_kept = besides_locals (46752 + 68 * k) 68 v w p.besides 65184 r.locals (inr (omega arith))
+        list_kept : list_in w r.locals ≡ list_in v r.locals
+        list_kept = besides_locals (46752 + 68 * k) 68 v w p.besides 65184 r.locals (inr (omega arith))
 
-          abbrev W : Written
-          W = written r.delta (list_in v r.locals) (stack_in v r.stack)
+        abbrev W : Written
+        W = written r.delta (list_in v r.locals) (stack_in v r.stack)
 
-          locals_here : (body M).max_locals ≡ x.locals
-          unfolding site_body
-          locals_here =
-              ap (λ (b : Body). b.max_locals) (ap (λ (g : List ℕ). body (method_at s g x)) (sym z.front) ∙ body_here s u x z.ready.marked.here z.ready.marked.one)
+        locals_here : (body M).max_locals ≡ x.locals
+        unfolding site_body
+        locals_here =
+            ap (λ (b : Body). b.max_locals) (ap (λ (g : List ℕ). body (method_at s g x)) (sym z.front) ∙ body_here s u x z.ready.marked.here z.ready.marked.one)
 
-          row_is : frame (word w (46752 + 68 * k + 64)) (held w (row_held w x.locals (46752 + 68 * k))) ≡ frame (from + r.delta) (state_of M W)
-          unfolding state_of
-          row_is = rw (p.offset, p.holds, locals_here)
+        row_is : frame (word w (46752 + 68 * k + 64)) (held w (row_held w x.locals (46752 + 68 * k))) ≡ frame (from + r.delta) (state_of M W)
+        unfolding state_of
+        row_is = rw (p.offset, p.holds, locals_here)
 
-          abbrev A : List Frame
-          A = frames_at u x.locals 46752 k
+        abbrev A : List Frame
+        A = frames_at u x.locals 46752 k
 
-          abbrev fresh : Frame
-          fresh = frame (from + r.delta) (state_of M W)
+        abbrev fresh : Frame
+        fresh = frame (from + r.delta) (state_of M W)
 
-          abbrev rest : Res (List Frame)
-          rest = frames_from P M L f (n - (k + 1)) (k + 1) (from + r.delta + 1) (list_in w r.locals) r.at
+        abbrev rest : Res (List Frame)
+        rest = frames_from P M L f (n - (k + 1)) (k + 1) (from + r.delta + 1) (list_in w r.locals) g.at
 
-          abbrev rest' : Res (List Frame)
-          rest' = frames_from P M L f (n - (k + 1)) (suc k) (suc (from + r.delta)) (list_in v r.locals) r.at
+        abbrev rest' : Res (List Frame)
+        rest' = frames_from P M L f (n - (k + 1)) (suc k) (suc (from + r.delta)) (list_in v r.locals) g.at
 
-          pub rows_next : RowsRead s t x f n m q w (k + 1) (from + r.delta + 1) r.locals r.at
-          rows_next = record {
-            is =
-                ap (λ (fs : List Frame). pre fs rest) rows_are ∙ ap (pre (A ++ (fresh ∷ []))) rest_is ∙ sym (pre-pre A (fresh ∷ []) rest')
-                ∙ ap (pre A) (sym (turn_more P M L f k from (list_in u l) at (n - (k + 1)) W r.at (sym same_frame ∙ drawn_ok v k r _ y.is e)))
-                ∙ ap (λ (j : ℕ). pre A (frames_from P M L f j k from (list_in u l) at)) (sym one_less) ∙ z.is;
-            front = besides_front (46752 + 68 * k) 68 v w p.besides (omega arith) ∙ front_now;
-            ready = besides_readable (46752 + 68 * k) 68 v w p.besides (omega arith) s x (inl (omega arith)) ready_now;
-            long = p.besides.long ∙ y.besides.long ∙ z.long;
-            few = omega arith;
-            locals = y.locals good;
-            near = omega (arith, y.offset good);
-            rising = λ i j a c. rising i j a c (side j k);
-            under = λ i a. under i a (side i k);
-          }
-            where
-              rows_are : frames_at w x.locals 46752 (k + 1) ≡ A ++ (fresh ∷ [])
-              rows_are =
-                  ap (frames_at w x.locals 46752) (add-one k) ∙ frames_more w x.locals 46752 k
-                  ∙ ap (λ (fs : List Frame). fs ++ (frame (word w (46752 + 68 * k + 64)) (held w (row_held w x.locals (46752 + 68 * k))) ∷ [])) frames_kept
-                  ∙ ap (λ (g : Frame). A ++ (g ∷ [])) row_is
+        pub rows_next : RowsRead s t x f n m q w (k + 1) (from + r.delta + 1) r.locals g.at
+        rows_next = record {
+          is =
+              ap (λ (fs : List Frame). pre fs rest) rows_are ∙ ap (pre (A ++ (fresh ∷ []))) rest_is ∙ sym (pre-pre A (fresh ∷ []) rest')
+              ∙ ap (pre A) (sym (turn_more P M L f k from (list_in u l) at (n - (k + 1)) W g.at (sym (same_frame h) ∙ sym y.is)))
+              ∙ ap (λ (j : ℕ). pre A (frames_from P M L f j k from (list_in u l) at)) (sym (one_less h)) ∙ z.is;
+          front = besides_front (46752 + 68 * k) 68 v w p.besides (omega arith) ∙ front_now h v y.besides;
+          ready = besides_readable (46752 + 68 * k) 68 v w p.besides (omega arith) s x (inl (omega arith)) (ready_now h v y.besides);
+          long = p.besides.long ∙ y.besides.long ∙ z.long;
+          few = omega arith;
+          locals = y.locals;
+          near = omega (arith, y.offset);
+          rising = λ i j a c. rising i j a c (side j k);
+          under = λ i a. under i a (side i k);
+        }
+          where
+            rows_are : frames_at w x.locals 46752 (k + 1) ≡ A ++ (fresh ∷ [])
+            rows_are =
+                ap (frames_at w x.locals 46752) (add-one k) ∙ frames_more w x.locals 46752 k
+                ∙ ap (λ (fs : List Frame). fs ++ (frame (word w (46752 + 68 * k + 64)) (held w (row_held w x.locals (46752 + 68 * k))) ∷ [])) frames_kept
+                ∙ ap (λ (g : Frame). A ++ (g ∷ [])) row_is
 
-              rest_is : rest ≡ rest'
-              rest_is =
-                  ap (λ (j : ℕ). frames_from P M L f (n - (k + 1)) j (from + r.delta + 1) (list_in w r.locals) r.at) (add-one k)
-                  ∙ ap (λ (j : ℕ). frames_from P M L f (n - (k + 1)) (suc k) j (list_in w r.locals) r.at) (add-one (from + r.delta))
-                  ∙ ap (λ (j : List Ty). frames_from P M L f (n - (k + 1)) (suc k) (suc (from + r.delta)) j r.at) list_kept
+            rest_is : rest ≡ rest'
+            rest_is =
+                ap (λ (j : ℕ). frames_from P M L f (n - (k + 1)) j (from + r.delta + 1) (list_in w r.locals) g.at) (add-one k)
+                ∙ ap (λ (j : ℕ). frames_from P M L f (n - (k + 1)) (suc k) j (list_in w r.locals) g.at) (add-one (from + r.delta))
+                ∙ ap (λ (j : List Ty). frames_from P M L f (n - (k + 1)) (suc k) (suc (from + r.delta)) j g.at) list_kept
 
-              row_kept : (i : ℕ) → i < k → word w (46752 + 68 * i + 64) ≡ word u (46752 + 68 * i + 64)
-              row_kept i a = word_kept (46752 + 68 * i + 64) (omega arith)
+            row_kept : (i : ℕ) → i < k → word w (46752 + 68 * i + 64) ≡ word u (46752 + 68 * i + 64)
+            row_kept i a = word_kept (46752 + 68 * i + 64) (omega arith)
 
-              row_new : (i : ℕ) → i ≡ k → word w (46752 + 68 * i + 64) ≡ from + r.delta
-              row_new i a = ap (λ (j : ℕ). word w (46752 + 68 * j + 64)) a ∙ p.offset
+            row_new : (i : ℕ) → i ≡ k → word w (46752 + 68 * i + 64) ≡ from + r.delta
+            row_new i a = ap (λ (j : ℕ). word w (46752 + 68 * j + 64)) a ∙ p.offset
 
-              rising : (i j : ℕ) → i < j → j < k + 1 → (j < k) ⊎ (k ≤ j) → word w (46752 + 68 * i + 64) < word w (46752 + 68 * j + 64)
-              rising i j a c (inl d) = rw (row_kept i (omega arith), row_kept j d) (z.rising i j a d)
-              rising i j a c (inr d) = omega (arith, row_kept i (omega arith), row_new j (omega arith), z.under i (omega arith))
+            rising : (i j : ℕ) → i < j → j < k + 1 → (j < k) ⊎ (k ≤ j) → word w (46752 + 68 * i + 64) < word w (46752 + 68 * j + 64)
+            rising i j a c (inl d) = rw (row_kept i (omega arith), row_kept j d) (z.rising i j a d)
+            rising i j a c (inr d) = omega (arith, row_kept i (omega arith), row_new j (omega arith), z.under i (omega arith))
 
-              under : (i : ℕ) → i < k + 1 → (i < k) ⊎ (k ≤ i) → word w (46752 + 68 * i + 64) < from + r.delta + 1
-              under i a (inl d) = omega (arith, row_kept i d, z.under i d)
-              under i a (inr d) = omega (arith, row_new i (omega arith))
+            under : (i : ℕ) → i < k + 1 → (i < k) ⊎ (k ≤ i) → word w (46752 + 68 * i + 64) < from + r.delta + 1
+            under i a (inl d) = omega (arith, row_kept i d, z.under i d)
+            under i a (inr d) = omega (arith, row_new i (omega arith))
 
 -- ---- the start's list
 length_tys : (ds : List Desc) → length (tys_of ds) ≡ length ds
@@ -319,39 +309,30 @@ module _ (s t : List ℕ) (x : Site) (y : Readable s t x) (room : length (parame
     pub frames-asked : (n : ℕ) → n ≤ 256 → Readable s u x × (n ≤ 256) × (m ≤ x.locals)
     frames-asked n l = (besides_readable 65184 (length t) t u start_besides (omega arith) s x (inr (omega arith)) y, l, omega (arith, count_is))
 
-    pub table_read : (f : List ℕ) (c : Got) (d : Framed) (v : List ℕ) → res c ≡ num2_at f (length f) 14 0 0 → not c.ok ≡ false → c.val ≤ 256
-        → Listed s u x (frames_by s u x f c.val m c.at) d v → Listed s t x (table_by s t x f) d v
+    pub table_read : (f : List ℕ) (j a : ℕ) → ok j a ≡ num2_at f (length f) 14 0 0 → j ≤ 256 → (d : Result (Got Rows) faults.Fault) (v : List ℕ)
+        → Listed s u x (frames_by s u x f j m a) d v → Listed s t x (table_by s t x f) d v
     unfolding table_by table_at and_then frames_by lines_at
-    table_read f c d v e o l k = record {
+    table_read f j a e l d v k = record {
       is =
           k.is
-          ∙ ap (λ (g : List ℕ). frames_from (program_at s g x) (method_at s g x) (lines (program_at s g x) (method_at s g x)) f c.val 0 0 (list_in u m) c.at) start_front
-          ∙ ap (λ (ts : List Ty). frames_from P₁ M₁ (lines P₁ M₁) f c.val 0 0 ts c.at) start_list
-          ∙ sym (rw (no_ok (num2_at f (length f) 14 0 0) c c.val e o, le-ltb 256 c.val l));
+          ∙ ap (λ (g : List ℕ). frames_from (program_at s g x) (method_at s g x) (lines (program_at s g x) (method_at s g x)) f j 0 0 (list_in u m) a) start_front
+          ∙ ap (λ (ts : List Ty). frames_from P₁ M₁ (lines P₁ M₁) f j 0 0 ts a) start_list
+          ∙ sym (rw (← e, le-ltb 256 j l));
+      wrong = k.wrong;
       front = k.front ∙ start_front;
       ready = k.ready;
-      laid = k.laid;
-      room = k.room;
-      locals = k.locals;
+      rows = k.rows;
     }
 
 -- ---- the table whole
-count_bad : (f : List ℕ) (r : Got) → res r ≡ num2_at f (length f) 14 0 0 → not r.ok ≡ true → num2_at f (length f) 14 0 0 ≡ bad 14 0
-unfolding num2_at
-count_bad f r e h = go (leb (0 + 2) (length f)) (no_bad (num2_at f (length f) 14 0 0) r r.val e h)
-  where
-    go : (b : Bool) → cond b (ok (u2_at f 0) (0 + 2)) (bad 14 0) ≡ bad r.val r.at → cond b (ok (u2_at f 0) (0 + 2)) (bad 14 0) ≡ bad 14 0
-    go true p = let z : ◌≡◌ {A = ℕ} 0 1 = cc in absurd (omega arith)
-    go false p = refl
-
-module _ (s t : List ℕ) (x : Site) (y : Readable s t x) (f : List ℕ) (c : Got) (d : Framed) (e : res c ≡ num2_at f (length f) 14 0 0) (g : d ≡ refusing 0) where
-  pub table-cut : not c.ok ≡ true → Listed s t x (table_by s t x f) d t
+module _ (s t : List ℕ) (x : Site) (y : Readable s t x) (f : List ℕ) where
+  pub table-cut : (d : Result (Got Rows) faults.Fault) (e : faults.Fault) → IsErrAnd d (λ z. z ≡ e) → bad (number e.0) e.1 ≡ num2_at f (length f) 14 0 0 → Listed s t x (table_by s t x f) d t
   unfolding table_by table_at and_then
-  table-cut h = refused-listed s t x (table_by s t x f) d t 0 g (rw (count_bad f c e h)) refl y
+  table-cut d e p h = stopped-listed s t x (table_by s t x f) t d e p (rw (← h)) (cut_fault s t x f 0 0 (number e.0) e.1 h).0 refl y
 
-  pub table-many : not c.ok ≡ false → 256 < c.val → Listed s t x (table_by s t x f) d t
+  pub table-many : (j a : ℕ) → ok j a ≡ num2_at f (length f) 14 0 0 → 256 < j → Listed s t x (table_by s t x f) (Err (record { 0 = FrameTable; 1 = 0 })) t
   unfolding table_by table_at and_then
-  table-many h l = refused-listed s t x (table_by s t x f) d t 0 g (rw (no_ok (num2_at f (length f) 14 0 0) c c.val e h, lt-ltb 256 c.val l)) refl y
+  table-many j a h l = refused-listed s t x (table_by s t x f) t 0 (rw (← h, lt-ltb 256 j l)) refl y
 
 -- ---- the method's frames
 module _ (s t : List ℕ) (x : Site) (y : Readable s t x) where
@@ -373,15 +354,17 @@ module _ (s t : List ℕ) (x : Site) (y : Readable s t x) where
       go true = refl
       go false = refl
 
-  pub frames_none : (d : Framed) → (x.tables ≡ 1 → ⊥) → d ≡ listing 0 x.locals 0 → FramesRead s t x d t
+  pub frames_none : (d : Got Rows) → (x.tables ≡ 1 → ⊥) → d ≡ listing 0 x.locals 0 → FramesRead s t x (Ok d) t
   unfolding frames_at
   frames_none d h e = rw e (record {
     front = refl;
-    good = λ z. no_table h;
-    bad = λ z. absurd (not_so (sym z));
-    laid = λ z. record { inside = omega (arith, y.marked.long); locals = y.marked.here.bounded.locals; rising = λ i j a b. absurd (omega arith) };
-    room = λ z. omega arith;
-    locals = λ z. refl;
+    is = sym (no_table h);
+    wrong = tt;
+    rows = record {
+      laid = record { inside = omega (arith, y.marked.long); locals = y.marked.here.bounded.locals; rising = λ i j a b. absurd (omega arith) };
+      room = omega arith;
+      locals = refl;
+    };
     ready = y;
   })
 
@@ -389,27 +372,16 @@ module _ (s t : List ℕ) (x : Site) (y : Readable s t x) where
   unfolding frames found_of table_by lines_at
   one_table h = rw (frames_are, h)
 
-  pub frames_one : (d : Framed) (u : List ℕ) → x.tables ≡ 1 → Listed s t x (table_by s t x (site_frames s x)) d u → FramesRead s t x d u
+  pub frames_one : (d : Result (Got Rows) faults.Fault) (u : List ℕ) → x.tables ≡ 1 → Listed s t x (table_by s t x (site_frames s x)) d u → FramesRead s t x d u
   frames_one d u h k = record {
     front = k.front;
-    good = λ z. is ∙ yes d.ok z;
-    bad = λ z. is ∙ no d.ok z;
-    laid = k.laid;
-    room = k.room;
-    locals = k.locals;
+    is = k.is ∙ sym (ap (λ (g : List ℕ). frames (program_at s g x) (method_at s g x)) k.front ∙ one_table h);
+    wrong = k.wrong;
+    rows = k.rows;
     ready = k.ready;
   }
-    where
-      is : frames (program_at s (front u) x) (method_at s (front u) x) ≡ framed_as u d
-      is = ap (λ (g : List ℕ). frames (program_at s g x) (method_at s g x)) k.front ∙ one_table h ∙ sym k.is
-
-      yes : (b : Bool) → b ≡ true → cond b (ok (frames_of u d.rows) d.place) (bad 14 d.place) ≡ ok (frames_of u d.rows) d.place
-      yes b z = rw z
-
-      no : (b : Bool) → b ≡ false → cond b (ok (frames_of u d.rows) d.place) (bad 14 d.place) ≡ bad 14 d.place
-      no b z = rw z
 
 -- what the walk over the code asks
-pub frames_placeable : (s t : List ℕ) (x : Site) (r : Framed) (u : List ℕ) → FramesRead s t x r u → r.ok ≡ true → Placeable s u x r.rows
-frames_placeable s t x r u h e =
-    record { bounded = h.ready.marked.here.bounded; laid = h.laid e; rows = h.room e; locals = h.locals e; size = omega (arith, h.ready.marked.long) }
+pub frames_placeable : (s t : List ℕ) (x : Site) (r : Got Rows) (u : List ℕ) → FramesRead s t x (Ok r) u → Placeable s u x r.val
+frames_placeable s t x r u h =
+    record { bounded = h.ready.marked.here.bounded; laid = h.rows.laid; rows = h.rows.room; locals = h.rows.locals; size = omega (arith, h.ready.marked.long) }

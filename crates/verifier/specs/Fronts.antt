@@ -1,8 +1,6 @@
 -- A site of the whole scratch is one of its front. Assumes nothing.
 use Rattle.std.specs.Prelude.{ℕ, ◌+◌, ◌*◌, ◌%◌, ◌<◌, ◌≤◌, ◌≡◌, List}
-use Rattle.std.proofs.Common.{sym, subst, ◌∙◌, arith, get_or-take, take-take}
-use Rattle.std.proofs.Math.Path.{ap}
-use Rattle.std.proofs.Math.ListN.{get_or}
+use Rattle.std.proofs.Common.{sym, subst, ◌∙◌, arith, get_or-take, take-take, ap, get_or}
 use Rattle.kit.specs.Words.{word-take}
 use Rattle.reader.specs.BuiltIns.{first_class}
 use Rattle.classfiles.specs.Blocks.{listed, classes_in}

@@ -1,36 +1,36 @@
 -- Laws of judging a frame: the code's tests in another order than the definition's, with the same fault. Assumes nothing.
-use Prim.Native.Nat.{ℕ, suc, ◌+◌, ◌-◌, ◌<◌, ◌≤◌}
-use Rattle.std.specs.Prelude.{◌≡◌, Bool, not, ◌⊎◌, leb, length, get_or}
-use Rattle.std.proofs.Math.Path.{refl, sym, ap, subst}
-use Rattle.std.proofs.Common.{◌∙◌, inl, inr}
-use Rattle.std.proofs.Math.Bool.{true, false, cond}
-use mathlib.Core.List.{List, [], ◌∷◌}
-use native.Mathlib.Omega.{arith}
-use borrow.Author.Tests.{lt-ltb, le-ltb, not-true, not-false}
+use Rattle.std.specs.Prelude.{◌≡◌, Result, Ok, Err, IsErrAnd, Bool, not, ◌⊎◌, leb, length, get_or}
+use Rattle.std.proofs.Common.{◌∙◌, inl, inr, ℕ, suc, ◌+◌, ◌-◌, ◌<◌, ◌≤◌, refl, sym, ap, true, false, cond, List, [], ◌∷◌, arith, lt-ltb, le-ltb}
+use borrow.Author.Tests.{not-true, not-false}
 use Rattle.kit.specs.Bools.{not_so}
 use Rattle.kit.specs.Pick.{side}
 use Rattle.kit.specs.Words.{word}
 use Rattle.classfiles.specs.Members.{Body}
 use Rattle.texts.specs.Reading.{Res, ok, bad, and_then}
+use Rattle.texts.specs.Answers.{t_stop}
+use Rattle.texts.specs.declared.faults.Refusal.TheVariants.{FrameTable}
+use Rattle.texts.specs.declared.faults.Got.{Got}
+use Rattle.texts.specs.declared.faults.Fault as faults
 use Rattle.reader.specs.Program.{Program, Method}
 use Rattle.rules.specs.Opcodes.{body}
 use Rattle.rules.specs.Types.{Ty, is_top}
 use Rattle.rules.specs.TypeWords.{type_of}
 use Rattle.rules.specs.Slots.{slot, locals_at}
 use Rattle.rules.specs.Lines.{Line, is_start}
-use Rattle.rules.specs.Frames.{Written, written, no_top, good, judged, frame_at}
+use Rattle.rules.specs.Frames.{Written, no_top, good, judged, frame_at}
 use Rattle.rules.specs.Sites.{front, site_body, program_at, method_at}
 use Rattle.shaping.specs.Marks.{lines_at}
 use Rattle.shaping.specs.MarkLaws.{start_past}
 use Rattle.shaping.specs.ScanLaws.{body_here, lines-front}
 use Rattle.verifier.specs.FrameReading.{Readable}
 use Rattle.verifier.specs.Besides.{besides_none, besides_front, besides_readable}
-use Rattle.verifier.specs.Drawing.{list_in, stack_in, drawn_as, sized, Drew}
+use Rattle.verifier.specs.Drawing.{stack_in, written_in, sized, Drew}
+use Rattle.verifier.specs.DrawLaws.{no_ok, handed_wrong}
 use Rattle.rules.specs.declared.site.Site.{Site}
 use Rattle.verifier.specs.declared.frame_reader.Drawn.{Drawn}
 use Rattle.verifier.specs.FrameForms.{form_by}
 use Rattle.verifier.specs.Framing.{frame_by, Framing}
-use Rattle.verifier.specs.Judging.{topless, standing, Picked}
+use Rattle.verifier.specs.Judging.{topless, standing, kept_as, Picked}
 use Rattle.verifier.specs.Refusals.{then-then}
 
 -- ---- no top among n types from w on: i of them are none
@@ -67,45 +67,36 @@ topless_start t w n =
 
 -- ---- what was read, picked
 module _ (s t : List ℕ) (x : Site) (k from : ℕ) (r : Drawn) where
-  refused : (g : Drawn) → g.ok ≡ false → and_then (drawn_as t k r) (standing s t x k from) ≡ bad 14 k → Picked s t x k from r g
-  refused g z h = record { is = rw z (sym h); same = λ y. absurd (not_so (sym z ∙ y)); offset = λ y. absurd (not_so (sym z ∙ y)) }
+  refused : ((e : ℕ) → standing s t x k from (written_in t r) e ≡ bad 14 k) → Picked s t x k from r (Err (record { 0 = FrameTable; 1 = k }))
+  refused h = record { is = λ e. sym (h e); wrong = (refl, refl); offset = tt }
 
-  pub picked_none : not r.ok ≡ true → Picked s t x k from r r
-  unfolding and_then
-  picked_none z = refused r (not-true r.ok z) (rw (not-true r.ok z))
+  pub picked_past : Readable s t x → 4096 ≤ r.delta → Picked s t x k from r (Err (record { 0 = FrameTable; 1 = k }))
+  unfolding standing
+  picked_past d l =
+      let o : is_start (lines_at s t x) (from + r.delta) ≡ false = sym (start_past (lines_at s t x) (x.end - x.start) (from + r.delta) t d.marked.marks (omega (arith, d.marked.here.bounded.size))) in
+      refused (λ e. rw o)
 
-  module _ (y : not r.ok ≡ false) where
-    at_hand : and_then (drawn_as t k r) (standing s t x k from) ≡ standing s t x k from (written r.delta (list_in t r.locals) (stack_in t r.stack)) r.at
-    unfolding and_then
-    at_hand = rw (not-false r.ok y)
-
-    pub picked_past : (g : Drawn) → g.ok ≡ false → Readable s t x → 4096 ≤ r.delta → Picked s t x k from r g
+  module _ (b : Bool) (eb : b ≡ is_start (lines_at s t x) (from + r.delta)) where
+    pub picked_off : not b ≡ true → Picked s t x k from r (Err (record { 0 = FrameTable; 1 = k }))
     unfolding standing
-    picked_past g z d l =
-        let o : is_start (lines_at s t x) (from + r.delta) ≡ false = sym (start_past (lines_at s t x) (x.end - x.start) (from + r.delta) t d.marked.marks (omega (arith, d.marked.here.bounded.size))) in
-        refused g z (at_hand ∙ rw o)
+    picked_off h = refused (λ e. rw (← eb, not-true b h))
 
-    module _ (b : Bool) (eb : b ≡ is_start (lines_at s t x) (from + r.delta)) where
-      pub picked_off : (g : Drawn) → g.ok ≡ false → not b ≡ true → Picked s t x k from r g
+    module _ (h : not b ≡ false) (c : Bool) (ec : c ≡ topless (stack_in t r.stack)) where
+      pub picked_top : c ≡ false → Picked s t x k from r (Err (record { 0 = FrameTable; 1 = k }))
       unfolding standing
-      picked_off g z e = refused g z (at_hand ∙ rw (← eb, not-true b e))
+      picked_top z = refused (λ e. rw (← eb, not-false b h, ← ec, z))
 
-      module _ (e : not b ≡ false) (c : Bool) (ec : c ≡ topless (stack_in t r.stack)) where
-        pub picked_top : (g : Drawn) → g.ok ≡ false → c ≡ false → Picked s t x k from r g
-        unfolding standing
-        picked_top g z h = refused g z (at_hand ∙ rw (← eb, not-false b e, ← ec, h))
-
-        pub picked_good : Readable s t x → c ≡ true → Picked s t x k from r r
-        unfolding standing
-        picked_good d h = record {
-          is = rw (not-false r.ok y) (sym (sym (rw (not-false r.ok y)) ∙ at_hand ∙ rw (← eb, not-false b e, ← ec, h)));
-          same = λ p. refl;
-          offset = λ p. within (side (from + r.delta) (x.end - x.start));
-        }
-          where
-            within : (from + r.delta < x.end - x.start) ⊎ (x.end - x.start ≤ from + r.delta) → from + r.delta < 65536
-            within (inl p) = omega (arith, d.marked.here.bounded.size)
-            within (inr p) = absurd (not_so (start_past (lines_at s t x) (x.end - x.start) (from + r.delta) t d.marked.marks p ∙ sym eb ∙ not-false b e))
+      pub picked_good : Readable s t x → c ≡ true → Picked s t x k from r (Ok tt)
+      unfolding standing
+      picked_good d z = record {
+        is = λ e. sym (rw (← eb, not-false b h, ← ec, z));
+        wrong = tt;
+        offset = within (side (from + r.delta) (x.end - x.start));
+      }
+        where
+          within : (from + r.delta < x.end - x.start) ⊎ (x.end - x.start ≤ from + r.delta) → from + r.delta < 65536
+          within (inl p) = omega (arith, d.marked.here.bounded.size)
+          within (inr p) = absurd (not_so (start_past (lines_at s t x) (x.end - x.start) (from + r.delta) t d.marked.marks p ∙ sym eb ∙ not-false b h))
 
 -- ---- against the definition
 module _ (P : Program) (M : Method) (all : List Line) (f : List ℕ) (k : ℕ) where
@@ -138,14 +129,15 @@ then_same (ok v e) f g h = h v e
 then_same (bad n p) f g h = refl
 
 module _ (s t : List ℕ) (x : Site) (f : List ℕ) (k from n q : ℕ) where
-  pub framed_end : (r : Drawn) → r.ok ≡ false → length f ≤ q → Framing s t x f k from n q r t
+  pub framed_end : length f ≤ q → Framing s t x f k from n q (Err (record { 0 = FrameTable; 1 = k })) t
   unfolding frame_by frame_at
-  framed_end r z h = record {
-    is = rw (z, le-ltb q (length f) h);
+  framed_end h = record {
+    is = rw (le-ltb q (length f) h);
+    wrong = (refl, refl);
     besides = besides_none 65184 64 t;
-    locals = λ y. absurd (not_so (sym z ∙ y));
-    stack = λ y. absurd (not_so (sym z ∙ y));
-    offset = λ y. absurd (not_so (sym z ∙ y));
+    locals = tt;
+    stack = tt;
+    offset = tt;
   }
 
   module _ (y : Readable s t x) (h : q < length f) (b : ℕ) (eb : b ≡ get_or f q 0) where
@@ -157,20 +149,32 @@ module _ (s t : List ℕ) (x : Site) (f : List ℕ) (k from n q : ℕ) where
         (then_same (form_by s t x f k b n (q + 1)) _ _ (judged_by (program_at s (front t) x) (method_at s (front t) x) (lines_at s t x) f k x (ap (λ (j : Body). j.max_locals) own) (ap (λ (j : Body). j.max_stack) own) from)
         ∙ sym (then-then (form_by s t x f k b n (q + 1)) (sized x k) (standing s t x k from)))
 
-    module _ (r : Drawn) (u : List ℕ) (d : Drew s t x k (form_by s t x f k b n (q + 1)) r u) where
+    -- what its form does not fit
+    pub framed_off : (r : Result (Got Drawn) faults.Fault) (e : faults.Fault) → IsErrAnd r (λ z. z ≡ e) → (u : List ℕ) → Drew s t x k (form_by s t x f k b n (q + 1)) (Err e) u → Framing s t x f k from n q r u
+    framed_off r e p u d = record {
+      is = t_stop (written_in u) _ (standing s t x k from) r e p d.is ∙ sym frame_is;
+      wrong = handed_wrong k r e p d.wrong;
+      besides = d.besides;
+      locals = no_ok _ r e p;
+      stack = no_ok _ r e p;
+      offset = no_ok _ r e p;
+    }
+
+    module _ (r : Got Drawn) (u : List ℕ) (d : Drew s t x k (form_by s t x f k b n (q + 1)) (Ok r) u) where
       pub framed_ready : Readable s u x
       framed_ready = besides_readable 65184 64 t u d.besides (omega arith) s x (inr (omega arith)) y
 
-      pub framed : (g : Drawn) → Picked s u x k from r g → Framing s t x f k from n q g u
-      unfolding standing
-      framed g p = record {
-        is =
-            p.is
-            ∙ ap (λ (ls : List Line). and_then (drawn_as u k r) (λ w e. cond (is_start ls (from + w.delta)) (cond (topless w.stack) (ok w e) (bad 14 k)) (bad 14 k))) (lines-front s t u x (besides_front 65184 64 t u d.besides (omega arith)))
-            ∙ ap (λ (j : Res Written). and_then j (standing s t x k from)) d.is
-            ∙ sym frame_is;
-        besides = d.besides;
-        locals = λ z. subst (λ (j : Drawn). j.ok ≡ true → j.locals ≤ x.locals) (sym (p.same z)) d.locals z;
-        stack = λ z. subst (λ (j : Drawn). j.ok ≡ true → j.stack ≤ x.stack) (sym (p.same z)) d.stack z;
-        offset = p.offset;
-      }
+      stands : (g : Result (Unit {0}) faults.Fault) → Picked s u x k from r.val g → kept_as u r.val r.at g ≡ frame_by s t x f k from n q
+      unfolding standing and_then
+      stands g p =
+          p.is r.at
+          ∙ ap (λ (ls : List Line). cond (is_start ls (from + r.val.delta)) (cond (topless (stack_in u r.val.stack)) (ok (written_in u r.val) r.at) (bad 14 k)) (bad 14 k)) (lines-front s t u x (besides_front 65184 64 t u d.besides (omega arith)))
+          ∙ ap (λ (j : Res Written). and_then j (standing s t x k from)) d.is
+          ∙ sym frame_is
+
+      pub framed : Picked s u x k from r.val (Ok tt) → Framing s t x f k from n q (Ok r) u
+      framed p = record { is = stands (Ok tt) p; wrong = tt; besides = d.besides; locals = d.locals; stack = d.stack; offset = p.offset }
+
+      pub framed_not : (e : faults.Fault) → Picked s u x k from r.val (Err e) → (j : Result (Got Drawn) faults.Fault) → IsErrAnd j (λ z. z ≡ e) → Framing s t x f k from n q j u
+      framed_not e p (Ok a) w = absurd w
+      framed_not e p (Err z) w = record { is = rw w (stands (Err e) p); wrong = rw w p.wrong; besides = d.besides; locals = tt; stack = tt; offset = tt }

@@ -1,6 +1,6 @@
 -- Shortcuts that look harmless, ruled out: what `new` and a failed constructor call leave of an uninitialised object.
 use Rattle.std.specs.Prelude.{ℕ, ◌≡◌, Bool, true, false, cond, List, [], ◌∷◌, length}
-use Rattle.std.proofs.Math.Path.{refl}
+use Rattle.std.proofs.Common.{refl}
 use Rattle.kit.specs.Claims.{fail, verdict}
 use Rattle.reader.specs.Program.{Program, Method}
 use Rattle.rules.specs.Instruction.{MethodRef, new, invokespecial}

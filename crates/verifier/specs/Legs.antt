@@ -1,9 +1,9 @@
 -- Lines in a row: by their opcodes as long as they can be typed so, then one that is decoded. Assumes nothing.
-use Rattle.std.specs.Prelude.{ℕ, ◌<◌, ◌≤◌, ◌≡◌, refl, Bool, true, false, List, length, get_or, take}
+use Rattle.std.specs.Prelude.{ℕ, ◌<◌, ◌≤◌, ◌≡◌, refl, Some, None, Result, Ok, Err, IfOk, IfErr, IsErrAnd, Bool, true, false, List, length, get_or, take}
 use Rattle.std.proofs.Common.{sym, ap, subst, ◌∙◌, arith}
 use Rattle.std.proofs.Math.Option.{none}
 use Rattle.kit.specs.Bools.{not_so}
-use Rattle.kit.specs.Claims.{is, verdict, all_pass}
+use Rattle.kit.specs.Claims.{pass, verdict, all_pass}
 use Rattle.rules.specs.Frames.{Frame}
 use Rattle.rules.specs.Walk.{frame_at, meets, merged}
 use Rattle.rules.specs.Ancestry.{lineage}
@@ -18,10 +18,13 @@ use Rattle.verifier.specs.Quick.{down, Open, Tried, steady}
 use Rattle.verifier.specs.Walks.{next_at, next_far, Walked, Midway, mid_stop, mid_next, mid_same, place, held_parts}
 use Rattle.verifier.specs.Arrivals.{arrived_same}
 use Rattle.rules.specs.declared.site.Site.{Site}
-use Rattle.rules.specs.declared.site.Ruled.{Ruled}
+use Rattle.texts.specs.declared.faults.Refusal.{Refusal}
+use Rattle.texts.specs.declared.faults.Fault as faults
+use Rattle.shaping.specs.Marks.{Ruled}
 use Rattle.rules.specs.declared.slots.Held.{Held}
 use Rattle.rules.specs.declared.frames.Rows.{Rows}
 use Rattle.rules.specs.declared.types.Kin.{Kin}
+use Rattle.verifier.specs.declared.quick.Went.TheVariants.{On, Off}
 use Rattle.verifier.specs.declared.walk.Turn.{Turn}
 use Rattle.verifier.specs.declared.walk.Stretch.{Stretch}
 use Rattle.verifier.specs.declared.walk.Leg.{Leg}
@@ -85,19 +88,21 @@ module _ (s t u : List ℕ) (x : Site) (kin : Kin) (f : Rows) (h : Held) (from o
         front = k.front;
       }
 
+pub level_on : (s : List ℕ) (x : Site) (code : List ℕ) (o p : ℕ) (y : Bool) (till : ℕ) → Level s x o y till → o < length code → p ≡ next_at code o → p < till → Level s x p y till
+level_on s x code o p y till j l r i =
+    let b = next_far code o l in
+    record { quiet = λ e. quiet_on s x o till p till (j.quiet e) (omega arith) (omega arith); alike = λ e. alike_on s x o till p (j.alike e) (omega arith) i }
+
 module _ (s t u : List ℕ) (x : Site) (kin : Kin) (f : Rows) (h : Held) (from o depth : ℕ) (k : Stretching s t u x kin f h from o depth) (code : List ℕ) (c : code ≡ site_code s x) where
   pub stretched_out : from < length code → length code ≤ o → Stretched s t u x kin f h from (record { o = o; depth = depth; live = true; stuck = false })
   stretched_out l m = stretched_gone s t u x kin f h from o depth true (record { leads = k.leads; walking = k.ready.walking; far = omega arith; front = k.front })
 
-  module _ (l : o < length code) (v : List ℕ) (a : ℕ) (g : Held) (q : g ≡ down h depth) (z : Tried s u v x f true g o a) where
+  module _ (l : o < length code) (v : List ℕ) (g : Held) (q : g ≡ down h depth) where
     here : o < length (site_code s x)
     here = subst (λ (w : List ℕ). o < length w) c l
 
-    tried : Tried s u v x f true (down h depth) o a
-    tried = subst (λ (w : Held). Tried s u v x f true w o a) q z
-
-    pub stretched_stuck : a ≡ 65 → Stretched s t v x kin f h from (record { o = o; depth = depth; live = true; stuck = true })
-    stretched_stuck e = subst (λ (w : List ℕ). Stretched s t w x kin f h from (record { o = o; depth = depth; live = true; stuck = true })) (sym (tried.kept e)) (record {
+    pub stretched_stuck : Tried s u v x f true g o None → Stretched s t v x kin f h from (record { o = o; depth = depth; live = true; stuck = true })
+    stretched_stuck z = subst (λ (w : List ℕ). Stretched s t w x kin f h from (record { o = o; depth = depth; live = true; stuck = true })) (sym z.kept) (record {
       leads = k.leads;
       walking = k.ready.walking;
       far = k.far;
@@ -108,94 +113,92 @@ module _ (s t u : List ℕ) (x : Site) (kin : Kin) (f : Rows) (h : Held) (from o
       front = k.front;
     })
 
-    module _ (n : a ≡ 65 → ⊥) (e : length v ≡ length u) (p : ℕ) (r : p ≡ next_at code o) where
-      gone : (live : Bool) (d : ℕ) → LineDone s u v x f true (down h depth) o (record { refusal = 0; live = live; held = down h d }) → Gone s t v x kin f h from p d live
+    module _ (e : length v ≡ length u) (p : ℕ) (r : p ≡ next_at code o) where
+      gone : (live : Bool) (d : ℕ) → LineDone s u v x f true (down h depth) o (Ok (record { live = live; held = down h d })) → Gone s t v x kin f h from p d live
       gone live d done = record {
         leads = λ t₀ h₀ m.
-            rw (r, c) (mid_next s t₀ u x f h₀ o true (down h depth) (k.leads t₀ h₀ m) kin k.ready.walking here v (record { refusal = 0; live = live; held = down h d }) done refl (down h d) refl);
+            rw (r, c) (mid_next s t₀ u x f h₀ o true (down h depth) (k.leads t₀ h₀ m) kin k.ready.walking here v (record { live = live; held = down h d }) done (down h d) refl);
         walking = walking_on s u x kin f (down h depth) k.ready.walking v (down h d) done.going done.front e;
         far = let b = k.far in omega (arith, next_far code o l);
         front = done.front ∙ k.front;
       }
 
-      pub stretched_off : a ≡ 64 → Stretched s t v x kin f h from (record { o = p; depth = depth; live = false; stuck = false })
-      stretched_off y = stretched_gone s t v x kin f h from p depth false (gone false depth (tried.off y))
+      pub stretched_off : Tried s u v x f true g o (Some Off) → Stretched s t v x kin f h from (record { o = p; depth = depth; live = false; stuck = false })
+      stretched_off z = stretched_gone s t v x kin f h from p depth false (gone false depth (subst (λ (w : Held). Tried s u v x f true w o (Some Off)) q z).off)
 
-      module _ (m : a ≡ 64 → ⊥) where
+      module _ (a : ℕ) (z : Tried s u v x f true g o (Some (On a))) where
+        tried : Tried s u v x f true (down h depth) o (Some (On a))
+        tried = subst (λ (w : Held). Tried s u v x f true w o (Some (On a))) q z
+
         pub stretched_met : Stretched s t v x kin f h from (record { o = p; depth = a; live = true; stuck = false })
-        stretched_met = stretched_gone s t v x kin f h from p a true (gone true a (tried.on n m))
+        stretched_met = stretched_gone s t v x kin f h from p a true (gone true a tried.on)
 
         -- what the handlers ask of it is known: none covers it, or the same do and the locals are the same
         next_handled : (y : Bool) (till : ℕ) → Level s x o y till → (y ≡ false → steady (get_or code o 0) ≡ true) → p < till → Handled s v x kin f (down h a) p true
         next_handled true till j st i e = let b = next_far code o l in (j.quiet refl).asks _ _ _ _ _ p (omega arith) i
         next_handled false till j st i e =
             let b = next_far code o l in
-            handled_alike s u v x kin f (down h a) o till p (walking_on s u x kin f (down h depth) k.ready.walking u (down h a) (tried.on n m).going refl refl) (tried.on n m).front
-            (tried.same n m (ap (λ (w : List ℕ). steady (get_or w o 0)) (sym c) ∙ st refl)) (j.alike refl) (omega arith) i (λ z. k.ready.handled) e
+            handled_alike s u v x kin f (down h a) o till p (walking_on s u x kin f (down h depth) k.ready.walking u (down h a) tried.on.going refl refl) tried.on.front
+            (tried.same (ap (λ (w : List ℕ). steady (get_or w o 0)) (sym c) ∙ st refl)) (j.alike refl) (omega arith) i (λ z. k.ready.handled) e
 
         pub stretching_on : (y : Bool) (till : ℕ) → Unmet s t x f from y till → Level s x o y till → (y ≡ false → steady (get_or code o 0) ≡ true) → p < till → Stretching s t v x kin f h from p a
         stretching_on y till q j st i =
-            let d = gone true a (tried.on n m) in
+            let d = gone true a tried.on in
             let b = d.far in
             let w = d.walking in
             let r = w.rows in
             let fs : frames_of v f ≡ frames_of t f = frames_outside 65184 t v (front-word t v d.front) f w.laid.locals (omega arith) in
             gone_on s t v x kin f h from p a (ap (λ (g : List Frame). frame_at g p) fs ∙ q.free p (omega arith) i) (next_handled y till j st i) d
 
-        pub level_on : (y : Bool) (till : ℕ) → Level s x o y till → p < till → Level s x p y till
-        level_on y till j i =
-            let b = next_far code o l in
-            record { quiet = λ e. quiet_on s x o till p till (j.quiet e) (omega arith) (omega arith); alike = λ e. alike_on s x o till p (j.alike e) (omega arith) i }
-
 -- ---- lines in a row, one at least
-pub record LegDone (s t u : List ℕ) (x : Site) (f : Rows) (live : Bool) (h : Held) (o : ℕ) (r : Leg) : Type 0 where
-  pub stops : (r.refusal ≡ 0 → ⊥) → (t₀ : List ℕ) (h₀ : Held) → Midway s t₀ t x f h₀ o live h → (a : Ruled) → a ≡ record { number = r.refusal; place = r.o } → Walked s t₀ u x f h₀ a
-  pub leads : r.refusal ≡ 0 → Leads s t u x f live h o r.live r.held r.o
-  pub far : r.refusal ≡ 0 → o < r.o
-  pub going : Going h r.held
+pub record LegDone (s t u : List ℕ) (x : Site) (f : Rows) (live : Bool) (h : Held) (o : ℕ) (r : Result Leg faults.Fault) : Type 0 where
+  pub stops : IfErr r (λ e. (t₀ : List ℕ) (h₀ : Held) → Midway s t₀ t x f h₀ o live h → Walked s t₀ u x f h₀ (Err e))
+  pub leads : IfOk r (λ q. Leads s t u x f live h o q.live q.held q.o)
+  pub far : IfOk r (λ q. o < q.o)
+  pub going : IfOk r (λ q. Going h q.held)
   pub front : take 260736 u ≡ take 260736 t
 
 -- a line that is decoded
-module _ (s t u : List ℕ) (x : Site) (kin : Kin) (f : Rows) (live : Bool) (h : Held) (o : ℕ) (w : Walking s t x kin f h) (code : List ℕ) (c : code ≡ site_code s x) (k : o < length code) (r : Turn)
-    (d : LineDone s t u x f live h o r) where
+module _ (s t u : List ℕ) (x : Site) (kin : Kin) (f : Rows) (live : Bool) (h : Held) (o : ℕ) (w : Walking s t x kin f h) (code : List ℕ) (c : code ≡ site_code s x) (k : o < length code) where
   b : o < length (site_code s x)
   b = subst (λ (w : List ℕ). o < length w) c k
 
-  pub leg_refused : (l : Bool) → (r.refusal ≡ 0 → ⊥) → LegDone s t u x f live h o (record { refusal = r.refusal; o = o; live = l; held = r.held })
-  leg_refused l z = record {
-    stops = λ n t₀ h₀ m a e. mid_stop s t₀ t x f h₀ o live h m kin w b u r d a z e;
-    leads = λ e. absurd (z e);
-    far = λ e. absurd (z e);
-    going = d.going;
-    front = d.front;
-  }
+  pub leg_refused : (e : Refusal) → LineDone s t u x f live h o (Err e) → LegDone s t u x f live h o (Err (record { 0 = e; 1 = o }))
+  leg_refused e d = record { stops = λ t₀ h₀ m. mid_stop s t₀ t x f h₀ o live h m kin w b u e d; leads = tt; far = tt; going = tt; front = d.front }
 
-  pub leg_line : r.refusal ≡ 0 → (p : ℕ) → p ≡ next_at code o → LegDone s t u x f live h o (record { refusal = 0; o = p; live = r.live; held = r.held })
-  leg_line z p q = record {
-    stops = λ n. absurd (n refl);
-    leads = λ e t₀ h₀ m. rw (q, c) (mid_next s t₀ t x f h₀ o live h m kin w b u r d z r.held refl);
-    far = λ e. rw q (next_far code o k);
+  pub leg_line : (r : Turn) → LineDone s t u x f live h o (Ok r) → (p : ℕ) → p ≡ next_at code o → LegDone s t u x f live h o (Ok (record { o = p; live = r.live; held = r.held }))
+  leg_line r d p q = record {
+    stops = tt;
+    leads = λ t₀ h₀ m. rw (q, c) (mid_next s t₀ t x f h₀ o live h m kin w b u r d r.held refl);
+    far = rw q (next_far code o k);
     going = d.going;
     front = d.front;
   }
 
 -- behind others
-pub leg_then : (s t u v : List ℕ) (x : Site) (f : Rows) (live : Bool) (h g : Held) (o p : ℕ) (r : Leg) → Leads s t u x f live h o true g p → o ≤ p → g.at ≡ h.at → g.locals ≡ h.locals
+pub leg_then : (s t u v : List ℕ) (x : Site) (f : Rows) (live : Bool) (h g : Held) (o p : ℕ) (r : Result Leg faults.Fault) → Leads s t u x f live h o true g p → o ≤ p → g.at ≡ h.at → g.locals ≡ h.locals
     → take 260736 u ≡ take 260736 t → LegDone s u v x f true g p r → LegDone s t v x f live h o r
-leg_then s t u v x f live h g o p r a l i j e d = record {
-  stops = λ n t₀ h₀ m. d.stops n t₀ h₀ (a t₀ h₀ m);
-  leads = λ z t₀ h₀ m. d.leads z t₀ h₀ (a t₀ h₀ m);
-  far = λ z. let k = d.far z in omega arith;
-  going = record { at = d.going.at ∙ i; locals = d.going.locals ∙ j; depth = d.going.depth };
+leg_then s t u v x f live h g o p (Ok q) a l i j e d = record {
+  stops = tt;
+  leads = λ t₀ h₀ m. d.leads t₀ h₀ (a t₀ h₀ m);
+  far = let k = d.far in omega arith;
+  going = let k = d.going in record { at = k.at ∙ i; locals = k.locals ∙ j; depth = k.depth };
+  front = d.front ∙ e;
+}
+leg_then s t u v x f live h g o p (Err z) a l i j e d = record {
+  stops = λ t₀ h₀ m. d.stops t₀ h₀ (a t₀ h₀ m);
+  leads = tt;
+  far = tt;
+  going = tt;
   front = d.front ∙ e;
 }
 
 pub leg_stretched : (s t u : List ℕ) (x : Site) (kin : Kin) (f : Rows) (h : Held) (o : ℕ) (k : Stretch) → Stretched s t u x kin f h o k → k.stuck ≡ false → (q : Held) → q ≡ down h k.depth
-    → LegDone s t u x f true h o (record { refusal = 0; o = k.o; live = k.live; held = q })
+    → LegDone s t u x f true h o (Ok (record { o = k.o; live = k.live; held = q }))
 leg_stretched s t u x kin f h o k d e q z = rw z (record {
-  stops = λ n. absurd (n refl);
-  leads = λ y. d.leads;
-  far = λ y. d.on e;
+  stops = tt;
+  leads = d.leads;
+  far = d.on e;
   going = record { at = refl; locals = refl; depth = d.walking.depth };
   front = d.front;
 })
@@ -208,32 +211,38 @@ module _ (s t u : List ℕ) (x : Site) (kin : Kin) (f : Rows) (h : Held) (o : �
       let r : Open s u x kin f q k.o = rw z (d.ready e) in
       (r.walking, r.entered, (λ y. r.handled), c, rw c (d.inside e))
 
-  pub leg_stuck : (v : List ℕ) (r : Leg) → LegDone s u v x f true q k.o r → LegDone s t v x f true h o r
+  pub leg_stuck : (v : List ℕ) (r : Result Leg faults.Fault) → LegDone s u v x f true q k.o r → LegDone s t v x f true h o r
   leg_stuck v r n =
       leg_then s t u v x f true h (down h k.depth) o k.o r
       (λ t₀ h₀ m. rw (d.alive e) (d.leads t₀ h₀ m)) d.far refl refl d.front (subst (λ (y : Held). LegDone s u v x f true y k.o r) z n)
 
 -- after the state that came has met what stands at o
-module _ (s t u : List ℕ) (x : Site) (kin : Kin) (f : Rows) (live : Bool) (h : Held) (o : ℕ) (w : Walking s t x kin f h) (a : ℕ) (g : Held)
-    (m : is a ≡ verdict (meets (lineage t kin.at kin.count) (current live (held t h)) (frame_at (frames_of t f) o)))
-    (l : a ≡ 0 → held u g ≡ merged (current live (held t h)) (frame_at (frames_of t f) o)) (go : Going h g) (out : Outside h.at t u) (z : a ≡ 0)
-    (code : List ℕ) (c : code ≡ site_code s x) (k : o < length code) where
-  pub leg_arrived : (v : List ℕ) (r : Leg) → LegDone s u v x f true g o r → LegDone s t v x f live h o r
+module _ (s t u : List ℕ) (x : Site) (kin : Kin) (f : Rows) (live : Bool) (h : Held) (o : ℕ) (w : Walking s t x kin f h) (g : Held)
+    (m : pass ≡ verdict (meets (lineage t kin.at kin.count) (current live (held t h)) (frame_at (frames_of t f) o)))
+    (l : held u g ≡ merged (current live (held t h)) (frame_at (frames_of t f) o)) (go : Going h g) (out : Outside h.at t u)
+    (bytes : List ℕ) (c : bytes ≡ site_code s x) (k : o < length bytes) where
+  pub leg_arrived : (v : List ℕ) (r : Result Leg faults.Fault) → LegDone s u v x f true g o r → LegDone s t v x f live h o r
   leg_arrived v r d =
       let e : take 260736 u ≡ take 260736 t = outside_front t u h.at w.at out in
       leg_then s t u v x f live h g o o r
-      (λ t₀ h₀ n. mid_same s t₀ t x f h₀ o live h n kin w (subst (λ (y : List ℕ). o < length y) c k) u g e (arrived_same s t u x kin f live h o w a g m l go out z))
+      (λ t₀ h₀ n. mid_same s t₀ t x f h₀ o live h n kin w (subst (λ (y : List ℕ). o < length y) c k) u g e (arrived_same s t u x kin f live h o w g m l go out))
       (omega arith) go.at go.locals e d
 
 -- the same site
-pub leg_site : (s t u : List ℕ) (x y : Site) → y ≡ x → (f : Rows) (live : Bool) (h : Held) (o : ℕ) (r : Leg) → LegDone s t u y f live h o r → LegDone s t u x f live h o r
+pub leg_site : (s t u : List ℕ) (x y : Site) → y ≡ x → (f : Rows) (live : Bool) (h : Held) (o : ℕ) (r : Result Leg faults.Fault) → LegDone s t u y f live h o r → LegDone s t u x f live h o r
 leg_site s t u x y e f live h o r d = subst (λ (z : Site). LegDone s t u z f live h o r) e d
 
 -- the state as the loop keeps it
-pub leg_as : (s t u : List ℕ) (x : Site) (f : Rows) (live : Bool) (k g : Held) → g ≡ k → (o : ℕ) (r : Leg) → LegDone s t u x f live g o r → LegDone s t u x f live k o r
+pub leg_as : (s t u : List ℕ) (x : Site) (f : Rows) (live : Bool) (k g : Held) → g ≡ k → (o : ℕ) (r : Result Leg faults.Fault) → LegDone s t u x f live g o r → LegDone s t u x f live k o r
 leg_as s t u x f live k g e o r d = subst (λ (z : Held). LegDone s t u x f live z o r) e d
 
-pub leg_on : (s t u : List ℕ) (x : Site) (f : Rows) (live : Bool) (h : Held) (o : ℕ) (r : Leg) → LegDone s t u x f live h o r → r.refusal ≡ 0 → (t₀ : List ℕ) (h₀ : Held) → Midway s t₀ t x f h₀ o live h
+pub leg_on : (s t u : List ℕ) (x : Site) (f : Rows) (live : Bool) (h : Held) (o : ℕ) (r : Leg) → LegDone s t u x f live h o (Ok r) → (t₀ : List ℕ) (h₀ : Held) → Midway s t₀ t x f h₀ o live h
     → Midway s t₀ u x f h₀ r.o r.live (place h r.held.depth r.held.flag)
-leg_on s t u x f live h o r d z t₀ h₀ m =
-    subst (λ (g : Held). Midway s t₀ u x f h₀ r.o r.live g) (sym (held_parts h r.held d.going)) (d.leads z t₀ h₀ m)
+leg_on s t u x f live h o r d t₀ h₀ m =
+    subst (λ (g : Held). Midway s t₀ u x f h₀ r.o r.live g) (sym (held_parts h r.held d.going)) (d.leads t₀ h₀ m)
+
+-- the fault that a leg hands on
+pub leg_off : (s t u : List ℕ) (x : Site) (f : Rows) (live : Bool) (h : Held) (o : ℕ) (e : faults.Fault) → LegDone s t u x f live h o (Err e) → (r : Ruled) → IsErrAnd r (λ j. j ≡ e)
+    → (t₀ : List ℕ) (h₀ : Held) → Midway s t₀ t x f h₀ o live h → Walked s t₀ u x f h₀ r
+leg_off s t u x f live h o e d (Ok a) p t₀ h₀ m = absurd p
+leg_off s t u x f live h o e d (Err z) p t₀ h₀ m = subst (λ (j : faults.Fault). Walked s t₀ u x f h₀ (Err j)) (sym p) (d.stops t₀ h₀ m)

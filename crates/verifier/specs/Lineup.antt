@@ -1,14 +1,12 @@
 -- One line of the walk: what is read before the state does not change, so the tables say the same of the program throughout. Assumes nothing.
-use Rattle.std.specs.Prelude.{ℕ, ◌+◌, ◌-◌, ◌*◌, ◌^◌, ◌/◌, ◌<◌, ◌≤◌, ◌≡◌, refl, Bool, ◌⊎◌, ltb, length, get_or, take, drop}
-use Rattle.std.proofs.Math.Path.{sym, ap}
-use Rattle.std.proofs.Common.{subst, ◌∙◌, inl, inr, arith, length-take, get_or-take}
-use Rattle.std.proofs.Math.Bool.{cond}
-use mathlib.Core.List.{List, [], ◌++◌}
+use Rattle.std.specs.Prelude.{ℕ, ◌+◌, ◌-◌, ◌*◌, ◌^◌, ◌/◌, ◌<◌, ◌≤◌, ◌≡◌, refl, Result, Ok, Err, IfOk, IsErrAnd, Bool, ◌⊎◌, ltb, length, get_or, take, drop}
+use Rattle.std.proofs.Common.{subst, ◌∙◌, inl, inr, arith, length-take, get_or-take, sym, ap, cond, List, [], ◌++◌, lt-ltb, le-ltb}
 use Rattle.std.proofs.Math.Option.{Option, none, some}
-use borrow.Author.Tests.{lt-ltb, le-ltb}
 use Rattle.kit.specs.Pick.{side}
 use Rattle.kit.specs.Words.{word, word-take}
-use Rattle.kit.specs.Claims.{Claim, pass, is, verdict, verdict-append, is_zero, is_not, pass_then, fail_then}
+use Rattle.kit.specs.Claims.{Claim, Ruling, pass, fail, ruled, handed, verdict, verdict-append, pass_then, fail_then}
+use Rattle.texts.specs.Faults.{number}
+use Rattle.texts.specs.declared.faults.Refusal.{Refusal}
 use Rattle.reader.specs.BuiltIns.{first_class}
 use Rattle.classfiles.specs.Members.{Body}
 use Rattle.classfiles.specs.Attributes.{handlers_from}
@@ -123,6 +121,11 @@ module _ (t u : List ℕ) (e : take 260736 u ≡ take 260736 t) where
     results = λ c j. y.results c j ∙ sym (front-back (entry_of u n c j) ∙ ap (back_of t) (front-entry n c j h));
   }
 
+-- an error has no value of which something is said
+pub IfOk-never : {A E : Type 0} (P : A → Type 0) (e : E) (r : Result A E) → IsErrAnd r (λ j. j ≡ e) → IfOk r P
+IfOk-never P e (Ok a) b = absurd b
+IfOk-never P e (Err z) b = tt
+
 -- ---- one line
 -- what it asks, and what goes on
 unfoldable pub line_claims : Program → Method → List ℕ → Rows → ℕ → Option State → List (Claim ℕ)
@@ -150,20 +153,19 @@ module _ (P : Program) (M : Method) (t : List ℕ) (f : Rows) (o : ℕ) (c : Opt
   unfolding line_after
   after_left = ap (λ (T : State). onward (instruction P M o) (rule P M o (instruction P M o) T).after) (sym S-is)
 
-module _ (P : Program) (M : Method) (t : List ℕ) (f : Rows) (o : ℕ) (c : Option State) (n : ℕ) (p : Parents P t 25728 n) (a : ℕ)
-    (m : is a ≡ verdict (meets (lineage t 25728 n) c (frame_at (frames_of t f) o))) where
-  met : is a ≡ verdict (meets P c (frame_at (frames_of t f) o))
-  met = m ∙ ap (λ (cs : List (Claim ℕ)). verdict cs) (meets-lineage P t 25728 n p c (frame_at (frames_of t f) o))
+module _ (P : Program) (M : Method) (t : List ℕ) (f : Rows) (o : ℕ) (c : Option State) (n : ℕ) (p : Parents P t 25728 n) where
+  met : (R : Ruling ℕ) → R ≡ verdict (meets (lineage t 25728 n) c (frame_at (frames_of t f) o)) → R ≡ verdict (meets P c (frame_at (frames_of t f) o))
+  met R m = m ∙ ap (λ (cs : List (Claim ℕ)). verdict cs) (meets-lineage P t 25728 n p c (frame_at (frames_of t f) o))
 
-  pub line_stop : (a ≡ 0 → ⊥) → is a ≡ verdict (line_claims P M t f o c)
+  pub line_stop : (k : ℕ) → fail k ≡ verdict (meets (lineage t 25728 n) c (frame_at (frames_of t f) o)) → fail k ≡ verdict (line_claims P M t f o c)
   unfolding line_claims
-  line_stop z = is_not a z ∙ sym (verdict-append (meets P c (frame_at (frames_of t f) o)) _ ∙ fail_then _ _ a (sym met ∙ is_not a z))
+  line_stop k m = sym (verdict-append (meets P c (frame_at (frames_of t f) o)) _ ∙ fail_then _ _ k (sym (met (fail k) m)))
 
-  pub line_on : a ≡ 0 → verdict (instruction_claims P M (frames_of t f) o (instruction P M o) (merged c (frame_at (frames_of t f) o))) ≡ verdict (line_claims P M t f o c)
-  line_on z = claims_left P M t f o c _ refl (sym met ∙ is_zero a z)
+  pub line_on : pass ≡ verdict (meets (lineage t 25728 n) c (frame_at (frames_of t f) o)) → verdict (instruction_claims P M (frames_of t f) o (instruction P M o) (merged c (frame_at (frames_of t f) o))) ≡ verdict (line_claims P M t f o c)
+  line_on m = claims_left P M t f o c _ refl (sym (met pass m))
 
   -- the scratch as it was decoded from, v, and as the step found it, u
-  module _ (z : a ≡ 0) (s u : List ℕ) (x : Site) (h : Held) (i : code.Instr) (k : Known) (S : held u h ≡ merged c (frame_at (frames_of t f) o))
+  module _ (m : pass ≡ verdict (meets (lineage t 25728 n) c (frame_at (frames_of t f) o))) (s u : List ℕ) (x : Site) (h : Held) (i : code.Instr) (k : Known) (S : held u h ≡ merged c (frame_at (frames_of t f) o))
       (du : Sited s u P M x) (one : x.codes ≡ 1) (n-is : n ≡ first_class + x.classes) (fs : frames_of u f ≡ frames_of t f) (told : Told P M (facts_of u k) (stack_at u (h.at + 32) h.depth) i)
       (d : instr_of i ≡ instruction P M o) where
     abbrev B : List (Claim ℕ)
@@ -172,15 +174,15 @@ module _ (P : Program) (M : Method) (t : List ℕ) (f : Rows) (o : ℕ) (c : Opt
     parents_now : Parents P u 25728 n
     parents_now = rw n-is du.parents
 
-    pub line-says : (r : ℕ) → is r ≡ verdict B → is r ≡ verdict (line_claims P M t f o c)
+    pub line-says : (R : Ruling ℕ) → R ≡ verdict B → R ≡ verdict (line_claims P M t f o c)
     unfolding site_body
-    line-says r e =
+    line-says R e =
         e ∙ step_known P M u 25728 n parents_now (catch_in u x.class (first_class + x.classes)) (frames_of u f) (handlers_from s x.entries x.table) x.stack (facts_of u k) o i
         (catch_is s u P M x du) (sym (ap (λ (b : Body). b.table) (one_body s u P M x du one))) (sym (ap (λ (b : Body). b.max_stack) (one_body s u P M x du one))) (held u h) told
         ∙ ap (λ (g : List Frame). verdict (instruction_claims P M g o (instr_of i) (held u h))) fs
         ∙ ap (λ (j : Instr). verdict (instruction_claims P M (frames_of t f) o j (held u h))) d
         ∙ ap (λ (T : State). verdict (instruction_claims P M (frames_of t f) o (instruction P M o) T)) S
-        ∙ line_on z
+        ∙ line_on m
 
     pub line_after_lem : (v : List ℕ) (r : Held) (live : Bool) → held v r ≡ instr_after (facts_of u k) o i (held u h) → live ≡ falls_of i → current live (held v r) ≡ line_after P M t f o c
     unfolding line_after
@@ -208,11 +210,11 @@ pub record Entered (t : List ℕ) (f : Rows) (h : Held) (o : ℕ) : Type 0 where
   pub met : (P : Program) → verdict (meets P (some (held t h)) (frame_at (frames_of t f) o)) ≡ pass
   pub same : merged (some (held t h)) (frame_at (frames_of t f) o) ≡ held t h
 
-pub record LineDone (s t u : List ℕ) (x : Site) (f : Rows) (live : Bool) (h : Held) (o : ℕ) (r : Turn) : Type 0 where
-  pub says : (P : Program) (M : Method) → Sited s t P M x → Typed t P x.classes → x.codes ≡ 1 → is r.refusal ≡ verdict (line_claims P M t f o (current live (held t h)))
-  pub leaves : (P : Program) (M : Method) → Sited s t P M x → Typed t P x.classes → x.codes ≡ 1 → r.refusal ≡ 0
-      → current r.live (held u r.held) ≡ line_after P M t f o (current live (held t h))
-  pub going : Going h r.held
+pub record LineDone (s t u : List ℕ) (x : Site) (f : Rows) (live : Bool) (h : Held) (o : ℕ) (r : Result Turn Refusal) : Type 0 where
+  pub says : (P : Program) (M : Method) → Sited s t P M x → Typed t P x.classes → x.codes ≡ 1 → ruled number r ≡ verdict (line_claims P M t f o (current live (held t h)))
+  pub leaves : IfOk r (λ q. (P : Program) (M : Method) → Sited s t P M x → Typed t P x.classes → x.codes ≡ 1
+      → current q.live (held u q.held) ≡ line_after P M t f o (current live (held t h)))
+  pub going : IfOk r (λ q. Going h q.held)
   pub front : take 260736 u ≡ take 260736 t
 
 module _ (s t : List ℕ) (x : Site) (kin : Kin) (f : Rows) (h : Held) (w : Walking s t x kin f h) where
@@ -240,26 +242,27 @@ outside_front t u a e h = take_less 260736 (4 * a) t u (omega arith) h.front
 pub beside_front : (t u : List ℕ) → Beside 65256 t u → take 260736 u ≡ take 260736 t
 beside_front t u h = take_less 260736 261024 t u (omega arith) h.front
 
-module _ (s t u : List ℕ) (x : Site) (kin : Kin) (f : Rows) (live : Bool) (h : Held) (o : ℕ) (w : Walking s t x kin f h) (a : ℕ) (g : Held)
-    (m : is a ≡ verdict (meets (lineage t kin.at kin.count) (current live (held t h)) (frame_at (frames_of t f) o)))
-    (l : a ≡ 0 → held u g ≡ merged (current live (held t h)) (frame_at (frames_of t f) o)) (go : Going h g) (out : Outside h.at t u) where
-  pub met_at : is a ≡ verdict (meets (lineage t 25728 (first_class + x.classes)) (current live (held t h)) (frame_at (frames_of t f) o))
-  met_at =
+module _ (s t u : List ℕ) (x : Site) (kin : Kin) (f : Rows) (live : Bool) (h : Held) (o : ℕ) (w : Walking s t x kin f h) (out : Outside h.at t u) where
+  pub met_at : (R : Ruling ℕ) → R ≡ verdict (meets (lineage t kin.at kin.count) (current live (held t h)) (frame_at (frames_of t f) o))
+      → R ≡ verdict (meets (lineage t 25728 (first_class + x.classes)) (current live (held t h)) (frame_at (frames_of t f) o))
+  met_at R m =
       m ∙ ap (λ (b : ℕ). verdict (meets (lineage t b kin.count) (current live (held t h)) (frame_at (frames_of t f) o))) w.kin_at
       ∙ ap (λ (b : ℕ). verdict (meets (lineage t 25728 b) (current live (held t h)) (frame_at (frames_of t f) o))) w.kin_count
 
-  pub line_refused : (r : Turn) → (a ≡ 0 → ⊥) → r.refusal ≡ a → r.held ≡ g → LineDone s t u x f live h o r
-  line_refused r z e k = record {
-    says = λ P M d y one. ap is e ∙ line_stop P M t f o (current live (held t h)) (first_class + x.classes) d.parents a met_at z;
-    leaves = λ P M d y one q. absurd (z (sym e ∙ q));
-    going = rw k go;
+  pub line_refused : (e : Refusal) → fail (number e) ≡ verdict (meets (lineage t kin.at kin.count) (current live (held t h)) (frame_at (frames_of t f) o)) → LineDone s t u x f live h o (Err e)
+  line_refused e m = record {
+    says = λ P M d y one. line_stop P M t f o (current live (held t h)) (first_class + x.classes) d.parents (number e) (met_at (fail (number e)) m);
+    leaves = tt;
+    going = tt;
     front = outside_front t u h.at w.at out;
   }
 
-  module _ (z : a ≡ 0) (v y : List ℕ) (i : code.Instr) (k : Known) (d : DecodedAt s u x.class (site_code s x) o i) (p : Prepared s u v x g i k)
-      (b : ℕ) (q : Held)
-      (n : is b ≡ verdict (step_by (lineage v kin.at kin.count) (catch_in v x.class (first_class + x.classes)) (frames_of v f) (handlers_from s x.entries x.table) x.stack (facts_of v k) o i (held v g)))
-      (aft : b ≡ 0 → held y q ≡ instr_after (facts_of v k) o i (held v g)) (go2 : Going g q) (out2 : Outside g.at v y) where
+  module _ (g : Held) (m : pass ≡ verdict (meets (lineage t kin.at kin.count) (current live (held t h)) (frame_at (frames_of t f) o)))
+      (l : held u g ≡ merged (current live (held t h)) (frame_at (frames_of t f) o)) (go : Going h g)
+      (v y : List ℕ) (i : code.Instr) (k : Known) (d : DecodedAt s u x.class (site_code s x) o i) (p : Prepared s u v x g i k) (out2 : Outside g.at v y) where
+    abbrev asked : List (Claim ℕ)
+    asked = step_by (lineage v kin.at kin.count) (catch_in v x.class (first_class + x.classes)) (frames_of v f) (handlers_from s x.entries x.table) x.stack (facts_of v k) o i (held v g)
+
     f1 : take 260736 u ≡ take 260736 t
     f1 = outside_front t u h.at w.at out
 
@@ -283,8 +286,8 @@ module _ (s t u : List ℕ) (x : Site) (kin : Kin) (f : Rows) (live : Bool) (h :
         stack_same u v (g.at + 32) g.depth (λ i a b. slot-word u v i (p.beside.kept i (inl (omega arith)))) in
         cc
 
-    step-at : is b ≡ verdict (step_by (lineage v 25728 (first_class + x.classes)) (catch_in v x.class (first_class + x.classes)) (frames_of v f) (handlers_from s x.entries x.table) x.stack (facts_of v k) o i (held v g))
-    step-at =
+    step-at : (R : Ruling ℕ) → R ≡ verdict asked → R ≡ verdict (step_by (lineage v 25728 (first_class + x.classes)) (catch_in v x.class (first_class + x.classes)) (frames_of v f) (handlers_from s x.entries x.table) x.stack (facts_of v k) o i (held v g))
+    step-at R n =
         n ∙ ap (λ (c : ℕ). verdict (step_by (lineage v c kin.count) (catch_in v x.class (first_class + x.classes)) (frames_of v f) (handlers_from s x.entries x.table) x.stack (facts_of v k) o i (held v g))) w.kin_at
         ∙ ap (λ (c : ℕ). verdict (step_by (lineage v 25728 c) (catch_in v x.class (first_class + x.classes)) (frames_of v f) (handlers_from s x.entries x.table) x.stack (facts_of v k) o i (held v g))) w.kin_count
 
@@ -298,21 +301,31 @@ module _ (s t u : List ℕ) (x : Site) (kin : Kin) (f : Rows) (live : Bool) (h :
       decoded_now : instr_of i ≡ instruction P M o
       decoded_now = decoded s u P M x (sited_as u f1) o i one d
 
-      pub done_says : is b ≡ verdict (line_claims P M t f o (current live (held t h)))
-      done_says =
-          line-says P M t f o (current live (held t h)) (first_class + x.classes) dt.parents a met_at z s v x g i k (held_now ∙ l z) (sited_as v f2) one refl frames_now told_now decoded_now b step-at
+      pub done_says : (R : Ruling ℕ) → R ≡ verdict asked → R ≡ verdict (line_claims P M t f o (current live (held t h)))
+      done_says R n =
+          line-says P M t f o (current live (held t h)) (first_class + x.classes) dt.parents (met_at pass m) s v x g i k (held_now ∙ l) (sited_as v f2) one refl frames_now told_now decoded_now R (step-at R n)
 
-      pub done_after : (c : Bool) → c ≡ falls_of i → b ≡ 0 → current c (held y q) ≡ line_after P M t f o (current live (held t h))
-      done_after c e r =
-          line_after_lem P M t f o (current live (held t h)) (first_class + x.classes) dt.parents a met_at z s v x g i k (held_now ∙ l z) (sited_as v f2) one refl frames_now told_now decoded_now y q c (aft r) e
+      pub done_after : (q : Held) → held y q ≡ instr_after (facts_of v k) o i (held v g) → (c : Bool) → c ≡ falls_of i → current c (held y q) ≡ line_after P M t f o (current live (held t h))
+      done_after q a c e =
+          line_after_lem P M t f o (current live (held t h)) (first_class + x.classes) dt.parents (met_at pass m) s v x g i k (held_now ∙ l) (sited_as v f2) one refl frames_now told_now decoded_now y q c a e
 
-    pub line_done : (c : Bool) (r : Turn) → c ≡ falls_of i → r ≡ record { refusal = b; live = c; held = q } → LineDone s t y x f live h o r
-    line_done c r e t' = rw t' (record {
-      says = λ P M d y one. done_says P M d y one;
-      leaves = λ P M d y one q. done_after P M d y one c e q;
+    -- the step is refused
+    pub line_off : (e : Refusal) → fail (number e) ≡ verdict asked → (r : Result Turn Refusal) → IsErrAnd r (λ j. j ≡ e) → LineDone s t y x f live h o r
+    line_off e n r b = record {
+      says = λ P M dt yt one. handed number r e b ∙ done_says P M dt yt one (fail (number e)) n;
+      leaves = IfOk-never _ e r b;
+      going = IfOk-never _ e r b;
+      front = f3;
+    }
+
+    pub line_done : (q : Held) → pass ≡ verdict asked → held y q ≡ instr_after (facts_of v k) o i (held v g) → Going g q → (c : Bool) → c ≡ falls_of i
+        → LineDone s t y x f live h o (Ok (record { live = c; held = q }))
+    line_done q n a go2 c e = record {
+      says = λ P M dt yt one. done_says P M dt yt one pass n;
+      leaves = λ P M dt yt one. done_after P M dt yt one q a c e;
       going = record { at = go2.at ∙ go.at; locals = go2.locals ∙ go.locals; depth = go2.depth };
       front = f3;
-    })
+    }
 
 -- ---- what the steps of a line ask
 module _ (s t : List ℕ) (x : Site) (kin : Kin) (f : Rows) (h : Held) (w : Walking s t x kin f h) where

@@ -8,14 +8,13 @@ use Rattle.rules.specs.Frames.{Frame}
 use Rattle.rules.specs.Walk.{walk_claims}
 use Rattle.rules.specs.FrameRows.{frames_of, Laid}
 use Rattle.rules.specs.Sites.{Sited, Bounded}
-use Rattle.shaping.specs.Marks.{ruled_as}
+use Rattle.shaping.specs.Marks.{Ruled, ruled_as}
 use Rattle.rules.specs.StepClaims.{frames_outside, laid_outside}
 use Rattle.verifier.specs.Callees.{Typed}
 use Rattle.verifier.specs.Lineup.{front-word, front_sited, front-typed, Walking}
 use Rattle.verifier.specs.Walks.{Walked}
 use Rattle.verifier.specs.Starts.{Started}
 use Rattle.rules.specs.declared.site.Site.{Site}
-use Rattle.rules.specs.declared.site.Ruled.{Ruled}
 use Rattle.rules.specs.declared.slots.Held.{Held}
 use Rattle.rules.specs.declared.frames.Rows.{Rows}
 use Rattle.rules.specs.declared.types.Kin.{Kin}

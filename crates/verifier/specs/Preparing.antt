@@ -1,8 +1,6 @@
 -- What the code prepares for an instruction's rule is so of the program and method at a site. Assumes nothing.
 use Rattle.std.specs.Prelude.{ℕ, ◌+◌, ◌*◌, ◌/◌, ◌%◌, ◌<◌, ◌≤◌, ◌≡◌, refl, length}
-use Rattle.std.proofs.Math.Path.{sym, ap}
-use Rattle.std.proofs.Common.{◌∙◌, inl, arith, lt-ltb}
-use mathlib.Core.List.{List, reverse}
+use Rattle.std.proofs.Common.{◌∙◌, inl, arith, lt-ltb, sym, ap, List, reverse}
 use Rattle.std.proofs.lemmas.List.{length-reverse}
 use Rattle.classfiles.specs.Descriptors.{Desc}
 use Rattle.reader.specs.TypeCodes.{results_in}

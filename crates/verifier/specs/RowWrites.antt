@@ -1,11 +1,7 @@
 -- A frame's row written from the words at hand: locals, operands, offset, depth, flag. Assumes nothing.
-use Prim.Native.Nat.{ℕ, zero, suc, ◌+◌, ◌-◌, ◌/◌, ◌%◌, ◌^◌, ◌<◌, ◌≤◌}
 use Rattle.std.specs.Prelude.{◌≡◌, refl, Bool, true, false, cond, not, ◌⊎◌, eqb, length}
-use Rattle.std.proofs.Common.{sym, ◌∙◌, inl, inr, zero-add}
-use Rattle.std.proofs.Math.Path.{ap}
-use mathlib.Core.List.{List, [], ◌∷◌, ◌++◌, reverse, reverse-append}
-use native.Mathlib.Omega.{arith}
-use Rattle.std.proofs.Math.ListN.{replicate}
+use Rattle.std.proofs.Common.{sym, ◌∙◌, inl, inr, zero-add, ℕ, zero, suc, ◌+◌, ◌-◌, ◌/◌, ◌%◌, ◌^◌, ◌<◌, ◌≤◌, ap, List, [], ◌∷◌, ◌++◌, reverse, arith, replicate}
+use mathlib.Core.List.{reverse-append}
 use Rattle.kit.specs.Pick.{side}
 use Rattle.kit.specs.Words.{word, put_word, word_same, word_other, length_put}
 use Rattle.rules.specs.Types.{self, Ty, top, uninit, is_uninit}

@@ -1,10 +1,6 @@
 -- A method's start in words: receiver, parameters, top in every local past them. Assumes nothing.
-use Prim.Native.Nat.{ℕ, zero, suc, ◌+◌, ◌-◌, ◌*◌, ◌^◌, ◌/◌, ◌<◌, ◌≤◌}
 use Rattle.std.specs.Prelude.{◌≡◌, refl, true, false, cond, List, [], ◌∷◌, ◌++◌, ◌⊎◌, length, take}
-use Rattle.std.proofs.Math.Path.{sym}
-use Rattle.std.proofs.Common.{ap, ◌∙◌, inl, inr}
-use native.Mathlib.Omega.{arith}
-use Rattle.std.proofs.Math.ListN.{get_or}
+use Rattle.std.proofs.Common.{ap, ◌∙◌, inl, inr, ℕ, zero, suc, ◌+◌, ◌-◌, ◌*◌, ◌^◌, ◌/◌, ◌<◌, ◌≤◌, sym, arith, get_or}
 use Rattle.kit.specs.Pick.{side}
 use Rattle.kit.specs.Words.{word, put_word, word_same, word_other}
 use Rattle.reader.specs.BuiltIns.{first_class}

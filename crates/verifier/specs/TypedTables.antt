@@ -1,10 +1,6 @@
 -- What phases A and B leave are the types of the program's methods, of those of the built-in classes too, which have none. Assumes nothing.
-use Prim.Native.Nat.{ℕ, zero, suc, ◌+◌, ◌-◌, ◌*◌, ◌<◌, ◌≤◌}
 use Rattle.std.specs.Prelude.{◌≡◌, refl, List, [], ◌∷◌, ◌⊎◌, get_or, take, drop}
-use Rattle.std.proofs.Math.Path.{sym, ap}
-use Rattle.std.proofs.Common.{◌∙◌, inl, inr, lt-ltb}
-use Rattle.std.proofs.Math.Bool.{true}
-use native.Mathlib.Omega.{arith}
+use Rattle.std.proofs.Common.{◌∙◌, inl, inr, lt-ltb, ℕ, zero, suc, ◌+◌, ◌-◌, ◌*◌, ◌<◌, ◌≤◌, sym, ap, true, arith}
 use Rattle.std.proofs.Math.ListN.{get_or-eq_default}
 use Rattle.kit.specs.Pick.{side}
 use Rattle.kit.specs.Words.{word, word-part}

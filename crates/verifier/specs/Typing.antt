@@ -1,9 +1,6 @@
 -- Phase D of one method, from its frames and its walk. Assumes nothing.
-use Rattle.std.specs.Prelude.{ℕ, ◌+◌, ◌*◌, ◌<◌, ◌≤◌, ◌≡◌, refl, true, length, take}
-use Rattle.std.proofs.Math.Path.{sym, ap, subst}
-use Rattle.std.proofs.Common.{◌∙◌, arith, ne_eqb}
-use mathlib.Core.List.{List}
-use Rattle.std.proofs.Math.Seq.{take-take}
+use Rattle.std.specs.Prelude.{ℕ, ◌+◌, ◌*◌, ◌<◌, ◌≤◌, ◌≡◌, refl, Ok, Err, IsErrAnd, true, length, take}
+use Rattle.std.proofs.Common.{◌∙◌, arith, sym, ap, subst, List, take-take}
 use Rattle.kit.specs.Claims.{Ruling, pass}
 use Rattle.reader.specs.Verdicts.{Fault}
 use Rattle.texts.specs.Reading.{ok, bad}
@@ -30,7 +27,9 @@ use Rattle.verifier.specs.WalkHere.{walked_here}
 use Rattle.shaping.specs.Phases.{Readied, program_now, typing_by, judged_at, of_all, Judged}
 use Rattle.shaping.specs.Passing.{Typable}
 use Rattle.rules.specs.declared.site.Site.{Site}
-use Rattle.rules.specs.declared.site.Ruled.{Ruled}
+use Rattle.shaping.specs.Marks.{Ruled}
+use Rattle.texts.specs.Faults.{number}
+use Rattle.texts.specs.declared.faults.Fault as faults
 use Rattle.rules.specs.declared.frames.Rows.{Rows}
 
 -- what has passed has passed while the front stands
@@ -98,9 +97,10 @@ module _ (s : List ℕ) (n c m : ℕ) (x : Site) (t u v : List ℕ) (h : Readied
     front = sym (take-take 187008 260736 w (omega arith)) ∙ ap (take 187008) k.front ∙ take-take 187008 260736 v (omega arith) ∙ same;
   }
 
-  pub frames-refused : (k p : ℕ) → frames P M ≡ bad k p → (k ≡ 0 → ⊥) → Judged (judged_at typing_by s n t c m) (record { number = k; place = p }) t v
+  pub frames-refused : (r : Ruled) (e : faults.Fault) → IsErrAnd r (λ z. z ≡ e) → frames P M ≡ bad (number e.0) e.1 → Judged (judged_at typing_by s n t c m) r t v
   unfolding typing_by walked
-  frames-refused k p z e = record {
-    is = rw (ne_eqb k 0 e) (ap (walked P M) (sym z) ∙ at_now);
+  frames-refused (Ok u) e p z = absurd p
+  frames-refused (Err j) e p z = record {
+    is = rw p (ap (walked P M) (sym z) ∙ at_now);
     front = same;
   }

@@ -1,8 +1,6 @@
 -- The walk of a method of the program that the scratch stands for. Assumes nothing.
 use Rattle.std.specs.Prelude.{ℕ, ◌+◌, ◌*◌, ◌%◌, ◌<◌, ◌≤◌, ◌≡◌, List}
-use Rattle.std.proofs.Common.{sym, subst, ◌∙◌, arith, get_or-take}
-use Rattle.std.proofs.Math.Path.{ap}
-use Rattle.std.proofs.Math.ListN.{length, get_or}
+use Rattle.std.proofs.Common.{sym, subst, ◌∙◌, arith, get_or-take, ap, length, get_or}
 use Rattle.kit.specs.Words.{word-take}
 use Rattle.kit.specs.Claims.{verdict}
 use Rattle.classfiles.specs.BlockWords.{listed_same, length-listed}
@@ -14,11 +12,10 @@ use Rattle.rules.specs.FrameRows.{frames_of}
 use Rattle.rules.specs.ResolvedWords.{resolved_of, Flagged}
 use Rattle.rules.specs.Sites.{front, Sited, Here, KnowsInit, program_at, method_at}
 use Rattle.shaping.specs.SiteLaws.{word-front}
-use Rattle.shaping.specs.Marks.{ruled_as}
+use Rattle.shaping.specs.Marks.{Ruled, ruled_as}
 use Rattle.verifier.specs.Callees.{Typed}
 use Rattle.verifier.specs.MethodWalks.{MethodWalked}
 use Rattle.rules.specs.declared.site.Site.{Site}
-use Rattle.rules.specs.declared.site.Ruled.{Ruled}
 use Rattle.rules.specs.declared.frames.Rows.{Rows}
 
 -- what the front says, the scratch says

@@ -1,13 +1,9 @@
 -- The walk's loop: lines in order, the first refusal with its place. Assumes nothing.
-use Rattle.std.specs.Prelude.{ℕ, ◌+◌, ◌<◌, ◌≤◌, ◌≡◌, Bool, cond, length, take}
-use Rattle.std.proofs.Math.Path.{refl, sym, ap}
-use Rattle.std.proofs.Common.{◌∙◌, arith}
-use Rattle.std.proofs.Math.Bool.{true, false}
-use mathlib.Core.List.{List, [], ◌∷◌, ◌++◌}
+use Rattle.std.specs.Prelude.{ℕ, ◌+◌, ◌<◌, ◌≤◌, ◌≡◌, Ok, Err, Bool, cond, length, take}
+use Rattle.std.proofs.Common.{◌∙◌, arith, refl, sym, ap, true, false, List, [], ◌∷◌, ◌++◌, eqb, eq-eqb, ne_eqb, eqb-true}
 use Rattle.std.proofs.Math.Option.{Option, some}
-use Rattle.std.proofs.Math.Dec.{eqb}
-use borrow.Author.Tests.{eq-eqb, ne_eqb, eqb-true, eqb-false}
-use Rattle.kit.specs.Claims.{Claim, Ruling, is, verdict, then, relabel, label, verdict-append, verdict-label, verdict_none, verdict_no, is_zero, is_not, pass_then, fail_then}
+use borrow.Author.Tests.{eqb-false}
+use Rattle.kit.specs.Claims.{Claim, Ruling, pass, fail, verdict, then, relabel, label, verdict-append, verdict-label, verdict_none, verdict_no, pass_then, fail_then}
 use Rattle.reader.specs.Verdicts.{Fault, fault, fault_at}
 use Rattle.reader.specs.Program.{Program, Method}
 use Rattle.rules.specs.Opcodes.{code_of, instruction, size_at}
@@ -22,7 +18,10 @@ use Rattle.rules.specs.Sites.{site_code, Sited}
 use Rattle.shaping.specs.LineLaws.{rest, rest_all, rest_end, rest_last, rest_more}
 use Rattle.shaping.specs.SiteLaws.{code_is}
 use Rattle.rules.specs.Loads.{current}
-use Rattle.shaping.specs.Marks.{ruled_as}
+use Rattle.texts.specs.Faults.{number}
+use Rattle.texts.specs.declared.faults.Refusal.{Refusal}
+use Rattle.texts.specs.declared.faults.Refusal.TheVariants.{Flow}
+use Rattle.shaping.specs.Marks.{Ruled, ruled_as}
 use Rattle.verifier.specs.Callees.{Typed}
 use Rattle.verifier.specs.Lineup.{line_claims, line_after, front-word, front_sited, front-typed, Walking, LineDone}
 use Rattle.rules.specs.StepClaims.{frames_outside, Going}
@@ -31,17 +30,16 @@ use Rattle.rules.specs.declared.slots.Held.{Held}
 use Rattle.rules.specs.declared.frames.Rows.{Rows}
 use Rattle.rules.specs.declared.types.Kin.{Kin}
 use Rattle.verifier.specs.declared.walk.Turn.{Turn}
-use Rattle.rules.specs.declared.site.Ruled.{Ruled}
 
 -- the answer at the code's end
 pub record Ended (live : Bool) (n : ℕ) (r : Ruled) : Type 0 where
   pub is : (S : State) → ruled_as r ≡ verdict (ending n (current live S))
 
-pub ended_live : (live : Bool) (n : ℕ) → live ≡ true → Ended live n (record { number = 17; place = n })
+pub ended_live : (live : Bool) (n : ℕ) → live ≡ true → Ended live n (Err (record { 0 = Flow; 1 = n }))
 ended_live live n e = record { is = λ S. rw e (sym (verdict_no (fault 17 n) false [] refl)) }
 
-pub ended_none : (live : Bool) (n p : ℕ) → live ≡ false → Ended live n (record { number = 0; place = p })
-ended_none live n p e = record { is = λ S. rw e (sym verdict_none) }
+pub ended_none : (live : Bool) (n : ℕ) → live ≡ false → Ended live n (Ok tt)
+ended_none live n e = record { is = λ S. rw e (sym verdict_none) }
 
 -- where the line behind the one at o starts; the code's end where that one has no length
 unfoldable pub next_at : List ℕ → ℕ → ℕ
@@ -88,16 +86,14 @@ module _ (P : Program) (M : Method) (t : List ℕ) (f : Rows) (o : ℕ) where
         ∙ verdict-append (label (fault_at o) (line_claims P M t f o c)) (walk P M (frames_of t f) (rest P M (next_at (code_of M) o)) (line_after P M t f o c))
         ∙ ap (λ (v : Ruling Fault). then v (verdict (walk P M (frames_of t f) (rest P M (next_at (code_of M) o)) (line_after P M t f o c)))) (verdict-label (fault_at o) (line_claims P M t f o c))
 
-    module _ (c : Option State) (R : Ruling Fault) (i : verdict (walk P M (frames_of t f) (rest P M o) c) ≡ R) (a : ℕ) (e : is a ≡ verdict (line_claims P M t f o c)) where
-      pub walk_stop : (r : Ruled) → (a ≡ 0 → ⊥) → r ≡ record { number = a; place = o } → ruled_as r ≡ R
+    module _ (c : Option State) (R : Ruling Fault) (i : verdict (walk P M (frames_of t f) (rest P M o) c) ≡ R) where
+      pub walk_stop : (e : Refusal) → fail (number e) ≡ verdict (line_claims P M t f o c) → ruled_as (Err (record { 0 = e; 1 = o })) ≡ R
       unfolding relabel
-      walk_stop r z q =
-          rw (q, ne_eqb a 0 z)
-          (sym (fail_then _ _ (fault_at o a) (ap (relabel (fault_at o)) (sym e ∙ is_not a z))) ∙ sym (walk-line c) ∙ i)
+      walk_stop e h = sym (fail_then _ _ (fault_at o (number e)) (ap (relabel (fault_at o)) (sym h))) ∙ sym (walk-line c) ∙ i
 
-      pub walk_next : a ≡ 0 → (d : Option State) → d ≡ line_after P M t f o c → verdict (walk P M (frames_of t f) (rest P M (next_at (code_of M) o)) d) ≡ R
+      pub walk_next : pass ≡ verdict (line_claims P M t f o c) → (d : Option State) → d ≡ line_after P M t f o c → verdict (walk P M (frames_of t f) (rest P M (next_at (code_of M) o)) d) ≡ R
       unfolding relabel
-      walk_next z d q = rw q (sym (pass_then _ _ (ap (relabel (fault_at o)) (sym e ∙ is_zero a z))) ∙ sym (walk-line c) ∙ i)
+      walk_next h d q = rw q (sym (pass_then _ _ (ap (relabel (fault_at o)) (sym h))) ∙ sym (walk-line c) ∙ i)
 
     -- what a line asks and leaves is all that counts of what comes to it
     pub walk_same : (c d : Option State) → verdict (line_claims P M t f o d) ≡ verdict (line_claims P M t f o c) → line_after P M t f o d ≡ line_after P M t f o c
@@ -176,29 +172,26 @@ module _ (s t u : List ℕ) (x : Site) (f : Rows) (h : Held) (o : ℕ) (live : B
       front = e ∙ m.front;
     }
 
-    module _ (v : List ℕ) (r : Turn) (d : LineDone s u v x f live g o r) where
-      module _ (P : Program) (M : Method) (dt : Sited s t P M x) (yt : Typed t P x.classes) (one : x.codes ≡ 1) where
-        says_at : is r.refusal ≡ verdict (line_claims P M t f o (current live (held u g)))
-        says_at =
-            d.says P M (sited_now P M dt yt one) (typed_now P M dt yt one) one
-            ∙ ap (λ (cs : List (Claim ℕ)). verdict cs) (line-frames P M t u f o (current live (held u g)) fs).0
+    module _ (v : List ℕ) where
+      says_at : (R : Ruling ℕ) (P : Program) (M : Method) → R ≡ verdict (line_claims P M u f o (current live (held u g))) → R ≡ verdict (line_claims P M t f o (current live (held u g)))
+      says_at R P M h = h ∙ ap (λ (cs : List (Claim ℕ)). verdict cs) (line-frames P M t u f o (current live (held u g)) fs).0
 
-        after_at : r.refusal ≡ 0 → current r.live (held v r.held) ≡ line_after P M t f o (current live (held u g))
-        after_at z = d.leaves P M (sited_now P M dt yt one) (typed_now P M dt yt one) one z ∙ (line-frames P M t u f o (current live (held u g)) fs).1
-
-      pub mid_stop : (a : Ruled) → (r.refusal ≡ 0 → ⊥) → a ≡ record { number = r.refusal; place = o } → Walked s t v x f h a
-      mid_stop a z e = record {
+      pub mid_stop : (e : Refusal) → LineDone s u v x f live g o (Err e) → Walked s t v x f h (Err (record { 0 = e; 1 = o }))
+      mid_stop e d = record {
         is = λ P M dt yt one st.
-            walk_stop P M t f o (inside P M dt yt one) (current live (held u g)) _ (m.is P M dt yt one st) r.refusal (says_at P M dt yt one) a z e;
+            walk_stop P M t f o (inside P M dt yt one) (current live (held u g)) _ (m.is P M dt yt one st) e
+            (says_at (fail (number e)) P M (d.says P M (sited_now P M dt yt one) (typed_now P M dt yt one) one));
         front = d.front ∙ m.front;
       }
 
-      pub mid_next : r.refusal ≡ 0 → (q : Held) → q ≡ r.held → Midway s t v x f h (next_at (site_code s x) o) r.live q
-      mid_next z q y = record {
+      pub mid_next : (r : Turn) → LineDone s u v x f live g o (Ok r) → (q : Held) → q ≡ r.held → Midway s t v x f h (next_at (site_code s x) o) r.live q
+      mid_next r d q y = record {
         is = λ P M dt yt one st.
             ap (λ (p : Held). verdict (walk P M (frames_of t f) (rest P M (next_at (site_code s x) o)) (current r.live (held v p)))) y
             ∙ ap (λ (c : List ℕ). verdict (walk P M (frames_of t f) (rest P M (next_at c o)) (current r.live (held v r.held)))) (sym (code_is s t P M x dt one))
-            ∙ walk_next P M t f o (inside P M dt yt one) (current live (held u g)) _ (m.is P M dt yt one st) r.refusal (says_at P M dt yt one) z (current r.live (held v r.held)) (after_at P M dt yt one z);
+            ∙ walk_next P M t f o (inside P M dt yt one) (current live (held u g)) _ (m.is P M dt yt one st)
+            (says_at pass P M (d.says P M (sited_now P M dt yt one) (typed_now P M dt yt one) one)) (current r.live (held v r.held))
+            (d.leaves P M (sited_now P M dt yt one) (typed_now P M dt yt one) one ∙ (line-frames P M t u f o (current live (held u g)) fs).1);
         front = d.front ∙ m.front;
       }
 

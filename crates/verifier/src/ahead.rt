@@ -19,15 +19,6 @@ pub struct Ahead {
     pub loose: bool,
 }
 
-fn least(a: usize, b: usize) -> usize
-    ensures { (result ≤ a) × (result ≤ b) }
-{
-    if a < b {
-        return a;
-    }
-    b
-}
-
 // The start of the entry at q, where that is before r and the entry ends behind o; r otherwise.
 fn nearer(s: &[u8], q: usize, o: usize, r: usize) -> usize
     requires { q ≤ 2 ^ 63 + 256 }
@@ -36,7 +27,7 @@ fn nearer(s: &[u8], q: usize, o: usize, r: usize) -> usize
     if u2_at(s, q + 2) <= o {
         return r;
     }
-    least(u2_at(s, q), r)
+    r.min(u2_at(s, q))
 }
 
 // The first offset from o on that a table entry covers, or `end`.
@@ -44,13 +35,9 @@ fn quiet_from(s: &[u8], x: Site, o: usize, end: usize) -> usize
     requires { (x.table ≤ 2 ^ 63) × (x.entries ≤ 32) }
     ensures { Quiet s.now x o result }
 {
-    let mut q = x.table;
-    let mut left = x.entries;
     let mut r = end;
-    while 0 < left {
-        r = nearer(s, q, o, r);
-        q += 8;
-        left -= 1;
+    for k in 0..x.entries {
+        r = nearer(s, x.table + 8 * k, o, r);
     }
     r
 }
@@ -72,11 +59,11 @@ fn edge(s: &[u8], q: usize, o: usize, r: usize) -> usize
 {
     let a = u2_at(s, q);
     if o < a {
-        return least(a, r);
+        return r.min(a);
     }
     let b = u2_at(s, q + 2);
     if o < b {
-        return least(b, r);
+        return r.min(b);
     }
     r
 }
@@ -86,13 +73,9 @@ fn alike_from(s: &[u8], x: Site, o: usize, end: usize) -> usize
     requires { (x.table ≤ 2 ^ 63) × (x.entries ≤ 32) }
     ensures { Alike s.now x o result }
 {
-    let mut q = x.table;
-    let mut left = x.entries;
     let mut r = end;
-    while 0 < left {
-        r = edge(s, q, o, r);
-        q += 8;
-        left -= 1;
+    for k in 0..x.entries {
+        r = edge(s, x.table + 8 * k, o, r);
     }
     r
 }
@@ -146,7 +129,7 @@ pub fn scout(
     let beyond = past(row, clear);
     let hushed = still_quiet(s, x, o, end, quiet);
     let level = still_alike(s, x, o, end, hushed);
-    let till = least(level, frame_at(t, f, beyond, end));
+    let till = level.min(frame_at(t, f, beyond, end));
     Ahead {
         row: beyond,
         quiet: hushed,

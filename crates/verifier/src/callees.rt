@@ -6,27 +6,15 @@ ghost use Rattle.rules.specs.TypeWords.{type_of};
 ghost use Rattle.rules.specs.Slots.{Roomy};
 ghost use Rattle.verifier.specs.Callees.{entry_of, params_of, back_of, Back, Beside, Listed, Ready};
 ghost use Rattle.verifier.specs.Preparing.{no_callee, callee_at, made_at, MadeBy, Prepared};
-ghost use Rattle.rules.specs.Known.{callee_in};
 
 use reader::types;
 use rules::calls::{Known, Params};
 use rules::codes::described;
 use rules::decode;
-use rules::forms::Gives;
-use rules::instruction::{Call, Callee, Instr};
+use rules::instruction::{Callee, Instr};
 use rules::site::Site;
 use rules::slots::{Held, peek};
 use rules::types::Ty;
-
-fn callee_in(c: Call) -> Callee
-    ensures { result ≡ callee_in c }
-{
-    match c {
-        Call::Virtual(m) => m,
-        Call::Special(m) => m,
-        Call::Static(m) => m,
-    }
-}
 
 fn no_callee() -> Callee
     ensures { result ≡ no_callee }
@@ -49,7 +37,7 @@ fn callee_of(i: Instr) -> Callee
         Instr::OnStack(_) => no_callee(),
         Instr::Leaving(_) => no_callee(),
         Instr::New(_) => no_callee(),
-        Instr::Calling(j) => callee_in(j),
+        Instr::Calling(j) => j.callee(),
         Instr::Illegal => no_callee(),
         Instr::Unresolved => no_callee(),
     }
@@ -76,17 +64,17 @@ pub fn entry_of(t: &[u8], n: usize, c: usize, j: usize) -> usize
 }
 
 // What comes back from the method of entry k.
-fn back_of(t: &[u8], k: usize) -> Gives
+fn back_of(t: &[u8], k: usize) -> Option<Ty>
     ensures { Back result (back_of t.now k) }
 {
     if 1024 <= k {
-        return Gives::Nothing;
+        return None;
     }
     let v = types::result_at(t, k);
     if v == 256 {
-        return Gives::Nothing;
+        return None;
     }
-    Gives::Value(described(v as u8))
+    Some(described(v as u8))
 }
 
 fn count_of(t: &[u8], k: usize) -> usize
@@ -103,12 +91,10 @@ fn write_params(t: &mut [u8], k: usize, n: usize)
     requires { (k < 1024) × (n ≡ length (params_in t.old k)) × (n < 32) × (65288 ≤ length t.old / 4) }
     ensures { Beside 65256 t.old t.new × Listed 65256 n (params_in t.old k) dint t.new }
 {
-    let mut i = 0;
-    while i < n {
+    for i in 0..n {
         let v = types::param_at(t, k, i);
         let w = described(v as u8);
         kit::put_word(t, 65256 + i, w.word);
-        i += 1;
     }
 }
 

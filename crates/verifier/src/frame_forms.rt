@@ -11,6 +11,7 @@ use crate::frame_reader::Drawn;
 use rules::site::Site;
 use rules::types::Ty;
 use shaping::marks;
+use texts::faults::{Fault, Got, Refusal};
 use texts::items;
 
 // A full frame's operands: u2 count, types. Its n locals are at hand.
@@ -23,41 +24,37 @@ fn full_stack(
     d: usize,
     n: usize,
     q: usize,
-) -> Drawn
+) -> Result<Got<Drawn>, Fault>
     requires { Readable s.now t.old x × (n ≤ x.locals) }
     ensures { Drew s.now t.old x k (stack_by s.now t.old x f.now k d n q) result t.new }
 {
-    let m = items::num2(f, f.len(), 14, k, q);
-    if !m.ok {
-        return frame_reader::unfit();
-    }
+    let m = items::num2(f, f.len(), Fault(Refusal::FrameTable, k), q)?;
     if x.stack < m.val {
-        return frame_reader::unfit();
+        return Err(Fault(Refusal::FrameTable, k));
     }
-    let r = frame_reader::types(s, t, x, f, k, m.val, 65216, m.at);
-    if r.ok {
-        return frame_reader::sketched(d, n, m.val, r.at);
-    }
-    frame_reader::unfit()
+    let at = frame_reader::types(s, t, x, f, k, m.val, 65216, m.at)?;
+    Ok(frame_reader::sketched(d, n, m.val, at))
 }
 
 // A full frame, behind its delta: u2 count and types of locals, then of operands.
-fn full(s: &[u8], t: &mut [u8], x: Site, f: &[u8], k: usize, d: usize, q: usize) -> Drawn
+fn full(
+    s: &[u8],
+    t: &mut [u8],
+    x: Site,
+    f: &[u8],
+    k: usize,
+    d: usize,
+    q: usize,
+) -> Result<Got<Drawn>, Fault>
     requires { Readable s.now t.old x }
     ensures { Drew s.now t.old x k (full_by s.now t.old x f.now k d q) result t.new }
 {
-    let n = items::num2(f, f.len(), 14, k, q);
-    if !n.ok {
-        return frame_reader::unfit();
-    }
+    let n = items::num2(f, f.len(), Fault(Refusal::FrameTable, k), q)?;
     if x.locals < n.val {
-        return frame_reader::unfit();
+        return Err(Fault(Refusal::FrameTable, k));
     }
-    let r = frame_reader::types(s, t, x, f, k, n.val, 65184, n.at);
-    if r.ok {
-        return full_stack(s, t, x, f, k, d, n.val, r.at);
-    }
-    frame_reader::unfit()
+    let at = frame_reader::types(s, t, x, f, k, n.val, 65184, n.at)?;
+    full_stack(s, t, x, f, k, d, n.val, at)
 }
 
 // The forms with a u2 delta d, which stands before q.
@@ -71,7 +68,7 @@ fn long_form(
     d: usize,
     n: usize,
     q: usize,
-) -> Drawn
+) -> Result<Got<Drawn>, Fault>
     requires { Readable s.now t.old x × (n ≤ x.locals) }
     ensures { Drew s.now t.old x k (long_by s.now t.old x f.now k tag d n q) result t.new }
 {
@@ -82,7 +79,7 @@ fn long_form(
         return frame_reader::chop(s, t, x, f, k, d, 251 - tag, n, q);
     }
     if tag == 251 {
-        return frame_reader::sketched(d, n, 0, q);
+        return Ok(frame_reader::sketched(d, n, 0, q));
     }
     if tag < 255 {
         return frame_reader::append(s, t, x, f, k, d, tag - 251, n, q);
@@ -100,23 +97,20 @@ fn form(
     tag: usize,
     n: usize,
     q: usize,
-) -> Drawn
+) -> Result<Got<Drawn>, Fault>
     requires { Readable s.now t.old x × (n ≤ x.locals) }
     ensures { Drew s.now t.old x k (form_by s.now t.old x f.now k tag n q) result t.new }
 {
     if tag < 64 {
-        return frame_reader::sketched(tag, n, 0, q);
+        return Ok(frame_reader::sketched(tag, n, 0, q));
     }
     if tag < 128 {
         return frame_reader::one_operand(s, t, x, f, k, tag - 64, n, q);
     }
     if tag < 247 {
-        return frame_reader::unfit();
+        return Err(Fault(Refusal::FrameTable, k));
     }
-    let d = items::num2(f, f.len(), 14, k, q);
-    if !d.ok {
-        return frame_reader::unfit();
-    }
+    let d = items::num2(f, f.len(), Fault(Refusal::FrameTable, k), q)?;
     long_form(s, t, x, f, k, tag, d.val, n, d.at)
 }
 
@@ -125,37 +119,32 @@ fn no_top(t: &[u8], n: usize) -> bool
     requires { n ≤ 32 }
     ensures { result ≡ topless (stack_in t.now n) }
 {
-    let mut i = 0;
-    while i < n {
+    for i in 0..n {
         let v = Ty {
             word: kit::word(t, 65216 + i),
         };
         if v.is_top() {
             return false;
         }
-        i += 1;
     }
     true
 }
 
 // A frame that was read, r, where a delta of 0 leads to `from`: it has to stand at an instruction, with no top on the stack.
-fn picked(s: &[u8], t: &[u8], x: Site, k: usize, from: usize, r: Drawn) -> Drawn
-    requires { Readable s.now t.now x × (from ≤ 65536) × (r.ok ≡ true → r.stack ≤ x.stack) }
+fn picked(s: &[u8], t: &[u8], x: Site, k: usize, from: usize, r: Drawn) -> Result<(), Fault>
+    requires { Readable s.now t.now x × (from ≤ 65536) × (r.stack ≤ x.stack) }
     ensures { Picked s.now t.now x k from r result }
 {
-    if !r.ok {
-        return r;
-    }
     if 4096 <= r.delta {
-        return frame_reader::unfit();
+        return Err(Fault(Refusal::FrameTable, k));
     }
     if !marks::is_start(s, t, x, from + r.delta) {
-        return frame_reader::unfit();
+        return Err(Fault(Refusal::FrameTable, k));
     }
     if no_top(t, r.stack) {
-        return r;
+        return Ok(());
     }
-    frame_reader::unfit()
+    Err(Fault(Refusal::FrameTable, k))
 }
 
 // Frame k at q of the table f: n locals are at hand, as the frame before left them, and a delta of 0 leads to `from`.
@@ -168,13 +157,14 @@ pub fn frame(
     from: usize,
     n: usize,
     q: usize,
-) -> Drawn
+) -> Result<Got<Drawn>, Fault>
     requires { Readable s.now t.old x × (n ≤ x.locals) × (from ≤ 65536) }
     ensures { Framing s.now t.old x f.now k from n q result t.new }
 {
     if f.len() <= q {
-        return frame_reader::unfit();
+        return Err(Fault(Refusal::FrameTable, k));
     }
-    let r = form(s, t, x, f, k, kit::byte(f, q), n, q + 1);
-    picked(s, t, x, k, from, r)
+    let r = form(s, t, x, f, k, kit::byte(f, q), n, q + 1)?;
+    picked(s, t, x, k, from, r.val)?;
+    Ok(r)
 }

@@ -9,7 +9,7 @@ ghost use Rattle.verifier.specs.Drawing.{list_in, stack_in};
 ghost use Rattle.rules.specs.Sites.{front, method_at};
 ghost use Rattle.verifier.specs.Starts.{start_tys};
 ghost use Rattle.verifier.specs.RowWrites.{Brought, Topped, SlotsPut, RowPut};
-ghost use Rattle.verifier.specs.FrameTable.{listing, refusing, frames_by, table_by, Listed, FramesRead};
+ghost use Rattle.verifier.specs.FrameTable.{listing, frames_by, table_by, Listed, FramesRead};
 
 use crate::frame_forms::frame;
 use crate::start::start;
@@ -17,6 +17,7 @@ use reader::types;
 use rules::frames::Rows;
 use rules::site::Site;
 use rules::types::Ty;
+use texts::faults::{Fault, Got, Refusal};
 use texts::items;
 
 // ---- A row.
@@ -26,15 +27,13 @@ fn no_self(t: &[u8], a: usize, n: usize) -> bool
     requires { a + n ≤ length t.now / 4 }
     ensures { result ≡ no_copy self (locals_at t.now a n) }
 {
-    let mut i = 0;
-    while i < n {
+    for i in 0..n {
         let v = Ty {
             word: kit::word(t, a + i),
         };
         if v.is_uninit(Ty::uninit_this()) {
             return false;
         }
-        i += 1;
     }
     true
 }
@@ -58,11 +57,9 @@ fn bring(t: &mut [u8], a: usize, b: usize, n: usize)
     requires { (b + n ≤ a) × (a + n ≤ length t.old / 4) }
     ensures { Brought a b n t.old t.new }
 {
-    let mut i = 0;
-    while i < n {
+    for i in 0..n {
         let w = kit::word(t, a + i);
         kit::put_word(t, b + i, w);
-        i += 1;
     }
 }
 
@@ -71,10 +68,8 @@ fn pad(t: &mut [u8], a: usize, n: usize)
     requires { a + n ≤ length t.old / 4 }
     ensures { Topped a n t.old t.new }
 {
-    let mut i = 0;
-    while i < n {
+    for i in 0..n {
         kit::put_word(t, a + i, Ty::TOP);
-        i += 1;
     }
 }
 
@@ -102,69 +97,46 @@ fn put_row(t: &mut [u8], a: usize, z: usize, n: usize, m: usize, o: usize)
 
 // ---- The table.
 
-// Whether the table is good; then its rows, and the position past it. Otherwise the frame that is wrong.
-#[derive(Clone, Copy)]
-pub struct Framed {
-    pub ok: bool,
-    pub rows: Rows,
-    pub place: usize,
-}
-
-fn listed(n: usize, z: usize, e: usize) -> Framed
+fn listed(n: usize, z: usize, e: usize) -> Got<Rows>
     ensures { result ≡ listing n z e }
 {
-    let rows = Rows {
+    let val = Rows {
         at: 46752,
         count: n,
         locals: z,
     };
-    Framed {
-        ok: true,
-        rows: rows,
-        place: e,
-    }
-}
-
-fn refused(k: usize) -> Framed
-    ensures { result ≡ refusing k }
-{
-    let rows = Rows {
-        at: 46752,
-        count: 0,
-        locals: 0,
-    };
-    Framed {
-        ok: false,
-        rows: rows,
-        place: k,
-    }
+    Got { val, at: e }
 }
 
 // n frames from q on, the first with m locals at hand before it; nothing may follow them.
-fn over_frames(s: &[u8], t: &mut [u8], x: Site, f: &[u8], n: usize, m: usize, q: usize) -> Framed
+fn over_frames(
+    s: &[u8],
+    t: &mut [u8],
+    x: Site,
+    f: &[u8],
+    n: usize,
+    m: usize,
+    q: usize,
+) -> Result<Got<Rows>, Fault>
     requires { Readable s.now t.old x × (n ≤ 256) × (m ≤ x.locals) }
     ensures { Listed s.now t.old x (frames_by s.now t.old x f.now n m q) result t.new }
 {
-    let mut k = 0;
     let mut from = 0;
     let mut locals = m;
     let mut at = q;
-    while k < n {
-        let r = frame(s, t, x, f, k, from, locals, at);
-        if !r.ok {
-            return refused(k);
-        }
-        let o = from + r.delta;
-        put_row(t, 46752 + 68 * k, x.locals, r.locals, r.stack, o);
+    for k in 0..n {
+        let r = frame(s, t, x, f, k, from, locals, at)?;
+        let g = r.val;
+        let o = from + g.delta;
+        put_row(t, 46752 + 68 * k, x.locals, g.locals, g.stack, o);
         from = o + 1;
-        locals = r.locals;
+        locals = g.locals;
         at = r.at;
-        k += 1;
     }
     if at == f.len() {
-        return listed(n, x.locals, at);
+        return Ok(listed(n, x.locals, at));
     }
-    refused(n)
+    Err(Fault(Refusal::FrameTable, n))
 }
 
 // How many locals are given at the start.
@@ -180,29 +152,26 @@ fn given(t: &[u8], x: Site) -> usize
 }
 
 // The table f of the method at x: a count, then frames.
-fn table(s: &[u8], t: &mut [u8], x: Site, f: &[u8]) -> Framed
+fn table(s: &[u8], t: &mut [u8], x: Site, f: &[u8]) -> Result<Got<Rows>, Fault>
     requires { Readable s.now t.old x × (length (parameter_tys (method_at s.now (front t.old) x)) ≤ x.locals) × (length (params_in t.old (64 * x.class + x.method)) ≤ 16) }
     ensures { Listed s.now t.old x (table_by s.now t.old x f.now) result t.new }
 {
-    let c = items::num2(f, f.len(), 14, 0, 0);
-    if !c.ok {
-        return refused(0);
-    }
+    let c = items::num2(f, f.len(), Fault(Refusal::FrameTable, 0), 0)?;
     if 256 < c.val {
-        return refused(0);
+        return Err(Fault(Refusal::FrameTable, 0));
     }
     let m = given(t, x);
     start(t, x);
     over_frames(s, t, x, f, c.val, m, c.at)
 }
 
-// The frames of the method at x, in rows; none where it has no table.
-pub fn frames(s: &[u8], t: &mut [u8], x: Site) -> Framed
+// The frames of the method at x, in rows, and the position past the table; none where it has no table.
+pub fn frames(s: &[u8], t: &mut [u8], x: Site) -> Result<Got<Rows>, Fault>
     requires { Readable s.now t.old x × (length (parameter_tys (method_at s.now (front t.old) x)) ≤ x.locals) × (length (params_in t.old (64 * x.class + x.method)) ≤ 16) }
     ensures { FramesRead s.now t.old x result t.new }
 {
     if x.tables != 1 {
-        return listed(0, x.locals, 0);
+        return Ok(listed(0, x.locals, 0));
     }
     let from = x.frames;
     let to = x.last;

@@ -1,5 +1,5 @@
 // Frequent instructions by their opcodes, where nothing is refused: the state has met what stands at the offset, and the handlers have been
-// asked. The answer is the stack's depth after; 64 where control does not go on, and 65 where nothing was done, for the walk to find out why.
+// asked. The answer is what the instruction leaves, and nothing where nothing was done, for the walk to find out why.
 ghost use Rattle.std.specs.Prelude.{◌≡◌, true, false, ◌+◌, ◌≤◌, get_or};
 ghost use Rattle.rules.specs.TypeWords.{type_of};
 ghost use Rattle.rules.specs.Slots.{Roomy};
@@ -16,6 +16,13 @@ use rules::site::Site;
 use rules::slots::{Held, cut, local, peek, put, room, set_local};
 use rules::types::{Kin, Ty};
 use rules::{decode, types};
+
+// What an instruction leaves: how deep the stack is, or that control does not go on.
+#[derive(Clone, Copy, Debug, PartialEq, Eq)]
+pub enum Went {
+    On(usize),
+    Off,
+}
 
 // Opcodes that leave the locals as they are, of those without a name.
 pub fn keeps_locals(op: usize) -> bool
@@ -37,120 +44,120 @@ pub fn keeps_locals(op: usize) -> bool
 }
 
 // A type comes on the stack, where there is room.
-pub fn push(t: &mut [u8], h: Held, most: usize, w: Ty) -> usize
+pub fn push(t: &mut [u8], h: Held, most: usize, w: Ty) -> Option<Went>
     requires { Roomy t.old h × (h.depth ≤ 32) }
     ensures { Pushed t.old t.new most h (type_of w.word) result }
 {
-    if room(h, 0, 1, most) != 0 {
-        return 65;
+    if room(h, 0, 1, most).is_err() {
+        return None;
     }
     let g = put(t, h, 0, w);
-    g.depth
+    Some(Went::On(g.depth))
 }
 
-fn load_int(t: &mut [u8], h: Held, most: usize, j: u16) -> usize
+fn load_int(t: &mut [u8], h: Held, most: usize, j: u16) -> Option<Went>
     requires { Roomy t.old h × (h.depth ≤ 32) }
     ensures { LoadsInt t.old t.new most h j result }
 {
     let w = local(t, h, j as usize);
     if !w.is_int() {
-        return 65;
+        return None;
     }
     push(t, h, most, Ty::int())
 }
 
-fn load_reference(t: &mut [u8], h: Held, most: usize, j: u16) -> usize
+fn load_reference(t: &mut [u8], h: Held, most: usize, j: u16) -> Option<Went>
     requires { Roomy t.old h × (h.depth ≤ 32) }
     ensures { LoadsReference t.old t.new most h j result }
 {
     let w = local(t, h, j as usize);
     if !w.is_reference() {
-        return 65;
+        return None;
     }
     push(t, h, most, w)
 }
 
-fn dup(t: &mut [u8], h: Held, most: usize) -> usize
+fn dup(t: &mut [u8], h: Held, most: usize) -> Option<Went>
     requires { Roomy t.old h × (h.depth ≤ 32) }
     ensures { Doubles t.old t.new most h result }
 {
     if h.depth < 1 {
-        return 65;
+        return None;
     }
     push(t, h, most, peek(t, h, 0))
 }
 
-fn store_int(t: &mut [u8], h: Held, most: usize, j: u16) -> usize
-    requires { Roomy t.old h × (h.depth ≤ 32) }
+fn store_int(t: &mut [u8], h: Held, most: usize, j: u16) -> Option<Went>
+    requires { Roomy t.old h }
     ensures { StoresInt t.old t.new most h j result }
 {
     if h.depth < 1 {
-        return 65;
+        return None;
     }
     let w = peek(t, h, 0);
     if !w.is_int() {
-        return 65;
+        return None;
     }
-    if room(h, 1, 0, most) != 0 {
-        return 65;
+    if room(h, 1, 0, most).is_err() {
+        return None;
     }
     set_local(t, h, j as usize, Ty::int());
-    h.depth - 1
+    Some(Went::On(h.depth - 1))
 }
 
-fn store_reference(t: &mut [u8], h: Held, most: usize, j: u16) -> usize
-    requires { Roomy t.old h × (h.depth ≤ 32) }
+fn store_reference(t: &mut [u8], h: Held, most: usize, j: u16) -> Option<Went>
+    requires { Roomy t.old h }
     ensures { StoresReference t.old t.new most h j result }
 {
     if h.depth < 1 {
-        return 65;
+        return None;
     }
     let w = peek(t, h, 0);
     if !w.is_reference() {
-        return 65;
+        return None;
     }
-    if room(h, 1, 0, most) != 0 {
-        return 65;
+    if room(h, 1, 0, most).is_err() {
+        return None;
     }
     set_local(t, h, j as usize, w);
-    h.depth - 1
+    Some(Went::On(h.depth - 1))
 }
 
-fn increment(t: &[u8], h: Held, most: usize, j: u16) -> usize
-    requires { Roomy t.now h × (h.depth ≤ 32) }
+fn increment(t: &[u8], h: Held, most: usize, j: u16) -> Option<Went>
+    requires { Roomy t.now h }
     ensures { Adds t.now t.now most h j result }
 {
     let w = local(t, h, j as usize);
     if !w.is_int() {
-        return 65;
+        return None;
     }
-    if room(h, 0, 0, most) != 0 {
-        return 65;
+    if room(h, 0, 0, most).is_err() {
+        return None;
     }
-    h.depth
+    Some(Went::On(h.depth))
 }
 
-fn nothing(t: &[u8], h: Held, most: usize) -> usize
-    requires { Roomy t.now h × (h.depth ≤ 32) }
+fn nothing(t: &[u8], h: Held, most: usize) -> Option<Went>
+    requires { Roomy t.now h }
     ensures { Idles t.now most h result }
 {
-    if room(h, 0, 0, most) != 0 {
-        return 65;
+    if room(h, 0, 0, most).is_err() {
+        return None;
     }
-    h.depth
+    Some(Went::On(h.depth))
 }
 
-fn pop(t: &[u8], h: Held, most: usize) -> usize
-    requires { Roomy t.now h × (h.depth ≤ 32) }
+fn pop(t: &[u8], h: Held, most: usize) -> Option<Went>
+    requires { Roomy t.now h }
     ensures { Pops t.now most h result }
 {
     if h.depth < 1 {
-        return 65;
+        return None;
     }
-    if room(h, 1, 0, most) != 0 {
-        return 65;
+    if room(h, 1, 0, most).is_err() {
+        return None;
     }
-    h.depth - 1
+    Some(Went::On(h.depth - 1))
 }
 
 // The two operands on top are ints.
@@ -181,63 +188,61 @@ pub fn one_int(t: &[u8], h: Held) -> bool
 }
 
 // Two ints give one.
-fn numbers(t: &mut [u8], h: Held, most: usize) -> usize
+fn numbers(t: &mut [u8], h: Held, most: usize) -> Option<Went>
     requires { Roomy t.old h × (h.depth ≤ 32) }
     ensures { Numbers t.old t.new most h result }
 {
     if !two_ints(t, h) {
-        return 65;
+        return None;
     }
-    if room(h, 2, 1, most) != 0 {
-        return 65;
+    if room(h, 2, 1, most).is_err() {
+        return None;
     }
     let g = put(t, h, 2, Ty::int());
-    g.depth
+    Some(Went::On(g.depth))
 }
 
 // k operands go, and the state goes to the frame at a target.
-pub fn branch(t: &[u8], kin: Kin, f: Rows, h: Held, most: usize, k: usize, o: u16) -> usize
-    requires { Roomy t.now h × (h.depth ≤ 32) × Laid t.now f }
+pub fn branch(t: &[u8], kin: Kin, f: Rows, h: Held, most: usize, k: usize, o: u16) -> Option<Went>
+    requires { Roomy t.now h × Laid t.now f }
     ensures { Goes t.now kin f most h k o result }
 {
-    if room(h, k, 0, most) != 0 {
-        return 65;
+    if room(h, k, 0, most).is_err() {
+        return None;
     }
     let g = cut(h, k);
-    if into_frame(t, kin, f, g, o as usize) != 0 {
-        return 65;
+    if into_frame(t, kin, f, g, o as usize).is_err() {
+        return None;
     }
-    g.depth
+    Some(Went::On(g.depth))
 }
 
-fn test(t: &[u8], kin: Kin, f: Rows, h: Held, most: usize, o: u16) -> usize
-    requires { Roomy t.now h × (h.depth ≤ 32) × Laid t.now f }
+fn test(t: &[u8], kin: Kin, f: Rows, h: Held, most: usize, o: u16) -> Option<Went>
+    requires { Roomy t.now h × Laid t.now f }
     ensures { Tests t.now kin f most h o result }
 {
     if !one_int(t, h) {
-        return 65;
+        return None;
     }
     branch(t, kin, f, h, most, 1, o)
 }
 
-fn compare(t: &[u8], kin: Kin, f: Rows, h: Held, most: usize, o: u16) -> usize
-    requires { Roomy t.now h × (h.depth ≤ 32) × Laid t.now f }
+fn compare(t: &[u8], kin: Kin, f: Rows, h: Held, most: usize, o: u16) -> Option<Went>
+    requires { Roomy t.now h × Laid t.now f }
     ensures { Compares t.now kin f most h o result }
 {
     if !two_ints(t, h) {
-        return 65;
+        return None;
     }
     branch(t, kin, f, h, most, 2, o)
 }
 
-fn goto(t: &[u8], kin: Kin, f: Rows, h: Held, most: usize, o: u16) -> usize
-    requires { Roomy t.now h × (h.depth ≤ 32) × Laid t.now f }
+fn goto(t: &[u8], kin: Kin, f: Rows, h: Held, most: usize, o: u16) -> Option<Went>
+    requires { Roomy t.now h × Laid t.now f }
     ensures { Away t.now kin f most h o result }
 {
-    if branch(t, kin, f, h, most, 0, o) == 65 {
-        return 65;
-    }
-    64
+    branch(t, kin, f, h, most, 0, o)?;
+    Some(Went::Off)
 }
 
 fn first(code: &[u8], o: u16) -> u8
@@ -271,7 +276,7 @@ fn constants(
     code: &[u8],
     o: u16,
     op: usize,
-) -> usize
+) -> Option<Went>
     requires { Open s.now t.old x kin f h o × (code.now ≡ site_code s.now x) × (op ≡ get_or code.now o 0) }
     ensures { Tried s.now t.old t.new x f true h o result }
 {
@@ -301,7 +306,7 @@ fn loads(
     code: &[u8],
     o: u16,
     op: usize,
-) -> usize
+) -> Option<Went>
     requires { Open s.now t.old x kin f h o × (code.now ≡ site_code s.now x) × (op ≡ get_or code.now o 0) }
     ensures { Tried s.now t.old t.new x f true h o result }
 {
@@ -331,7 +336,7 @@ fn stores(
     code: &[u8],
     o: u16,
     op: usize,
-) -> usize
+) -> Option<Went>
     requires { Open s.now t.old x kin f h o × (code.now ≡ site_code s.now x) × (op ≡ get_or code.now o 0) }
     ensures { Tried s.now t.old t.new x f true h o result }
 {
@@ -361,7 +366,7 @@ fn arithmetic(
     code: &[u8],
     o: u16,
     op: usize,
-) -> usize
+) -> Option<Went>
     requires { Open s.now t.old x kin f h o × (code.now ≡ site_code s.now x) × (op ≡ get_or code.now o 0) }
     ensures { Tried s.now t.old t.new x f true h o result }
 {
@@ -396,7 +401,7 @@ fn branches(
     code: &[u8],
     o: u16,
     op: usize,
-) -> usize
+) -> Option<Went>
     requires { Open s.now t.old x kin f h o × (code.now ≡ site_code s.now x) × (op ≡ get_or code.now o 0) }
     ensures { Tried s.now t.old t.new x f true h o result }
 {
@@ -428,7 +433,7 @@ pub fn quick(
     h: Held,
     code: &[u8],
     o: u16,
-) -> usize
+) -> Option<Went>
     requires { Open s.now t.old x kin f h o × (code.now ≡ site_code s.now x) }
     ensures { Tried s.now t.old t.new x f true h o result }
 {

@@ -9,6 +9,7 @@ ghost use Rattle.verifier.specs.Quick.{Open, Tried};
 ghost use Rattle.verifier.specs.QuickCalls.{Fitted, GivesBack, CallsStatic, CallsVirtual};
 
 use crate::callees::entry_of;
+use crate::quick::Went;
 use crate::quick_names::operand_fits;
 use reader::types::{param_at, param_count, result_at};
 use rules::codes::described;
@@ -23,86 +24,82 @@ fn arguments_fit(t: &[u8], kin: Kin, h: Held, k: usize, n: usize) -> bool
     requires { Placed t.now h × (k < 1024) × (n ≡ length (params_in t.now k)) }
     ensures { result ≡ true → Fitted (lineage t.now kin.at kin.count) (operands_of t.now h) (params_in t.now k) n 0 }
 {
-    let mut i = 0;
-    let mut left = n;
-    while 0 < left {
-        let w = described(param_at(t, k, left - 1) as u8);
+    for i in 0..n {
+        let w = described(param_at(t, k, n - i - 1) as u8);
         if !operand_fits(t, kin, h, i, w) {
             return false;
         }
-        i += 1;
-        left -= 1;
     }
     true
 }
 
 // k operands go; what has the code back comes, nothing where that is 256.
-fn give_back(t: &mut [u8], h: Held, most: usize, k: usize, back: usize) -> usize
+fn give_back(t: &mut [u8], h: Held, most: usize, k: usize, back: usize) -> Option<Went>
     requires { Roomy t.old h × (h.depth ≤ 32) × (k ≤ h.depth) × (back ≤ 256) }
     ensures { GivesBack t.old t.new most h k (tys_of (result_of back)) result }
 {
     if back == 256 {
-        if room(h, k, 0, most) != 0 {
-            return 65;
+        if room(h, k, 0, most).is_err() {
+            return None;
         }
-        return h.depth - k;
+        return Some(Went::On(h.depth - k));
     }
-    if room(h, k, 1, most) != 0 {
-        return 65;
+    if room(h, k, 1, most).is_err() {
+        return None;
     }
     let g = put(t, h, k, described(back as u8));
-    g.depth
+    Some(Went::On(g.depth))
 }
 
 // ---- By the word w of the method, of n classes of the bundle; its flags are 1 for static, 2 for a constructor.
 
-fn call_static(t: &mut [u8], kin: Kin, h: Held, most: usize, n: usize, w: u32) -> usize
+fn call_static(t: &mut [u8], kin: Kin, h: Held, most: usize, n: usize, w: u32) -> Option<Went>
     requires { Roomy t.old h × (h.depth ≤ 32) × (n ≤ 16) }
     ensures { CallsStatic t.old t.new kin most n h w result }
 {
     if w % 8 != 4 {
-        return 65;
+        return None;
     }
     if w / 524288 % 4 != 1 {
-        return 65;
+        return None;
     }
     let k = entry_of(t, n, (w / 256 % 32) as usize, (w / 8192 % 64) as usize);
     if 1024 <= k {
-        return 65;
+        return None;
     }
     let m = param_count(t, k);
     if h.depth < m {
-        return 65;
+        return None;
     }
     if !arguments_fit(t, kin, h, k, m) {
-        return 65;
+        return None;
     }
     give_back(t, h, most, m, result_at(t, k))
 }
 
-fn call_virtual(t: &mut [u8], kin: Kin, h: Held, most: usize, n: usize, w: u32) -> usize
+fn call_virtual(t: &mut [u8], kin: Kin, h: Held, most: usize, n: usize, w: u32) -> Option<Went>
     requires { Roomy t.old h × (h.depth ≤ 32) × (n ≤ 16) }
     ensures { CallsVirtual t.old t.new kin most n h w result }
 {
     if w % 8 != 4 {
-        return 65;
+        return None;
     }
     if w / 524288 % 4 != 0 {
-        return 65;
+        return None;
     }
     let k = entry_of(t, n, (w / 256 % 32) as usize, (w / 8192 % 64) as usize);
     if 1024 <= k {
-        return 65;
+        return None;
     }
     let m = param_count(t, k);
     if h.depth <= m {
-        return 65;
+        return None;
     }
     if !arguments_fit(t, kin, h, k, m) {
-        return 65;
+        return None;
     }
     if !operand_fits(t, kin, h, m, Ty::class((w / 8 % 32) as u16)) {
-        return 65;
+        return None;
     }
     give_back(t, h, most, m + 1, result_at(t, k))
 }
@@ -117,7 +114,7 @@ pub fn calls(
     code: &[u8],
     o: u16,
     op: usize,
-) -> usize
+) -> Option<Went>
     requires { Open s.now t.old x kin f h o × (code.now ≡ site_code s.now x) × (op ≡ get_or code.now o 0) }
     ensures { Tried s.now t.old t.new x f true h o result }
 {
@@ -138,6 +135,6 @@ pub fn calls(
             x.classes,
             decode::named_at(t, x.class, code, o as usize),
         ),
-        _ => 65,
+        _ => None,
     }
 }

@@ -12,7 +12,7 @@ ghost use Rattle.rules.specs.declared.instruction.Leave.TheVariants.{Ireturn, Ar
 ghost use Rattle.verifier.specs.Quick.{Open, Tried};
 ghost use Rattle.verifier.specs.QuickNames.{LoadsNumber, GetsField, PutsField, MakesNew, LoadsElement, StoresElement, Measures, TestsNull, Leaves};
 
-use crate::quick::{branch, one_int, push, target};
+use crate::quick::{Went, branch, one_int, push, target};
 use crate::quick_calls::calls;
 use reader::types::result_at;
 use rules::codes::described;
@@ -32,78 +32,78 @@ pub fn operand_fits(t: &[u8], kin: Kin, h: Held, k: usize, w: Ty) -> bool
 
 // ---- By the word w of what is named.
 
-fn load_number(t: &mut [u8], h: Held, most: usize, w: u32) -> usize
+fn load_number(t: &mut [u8], h: Held, most: usize, w: u32) -> Option<Went>
     requires { Roomy t.old h × (h.depth ≤ 32) }
     ensures { LoadsNumber t.old t.new most h w result }
 {
     if w % 8 != 1 {
-        return 65;
+        return None;
     }
     push(t, h, most, Ty::int())
 }
 
-fn get_field(t: &mut [u8], kin: Kin, h: Held, most: usize, w: u32) -> usize
+fn get_field(t: &mut [u8], kin: Kin, h: Held, most: usize, w: u32) -> Option<Went>
     requires { Roomy t.old h × (h.depth ≤ 32) }
     ensures { GetsField t.old t.new kin most h w result }
 {
     if w % 8 != 3 {
-        return 65;
+        return None;
     }
     if h.depth < 1 {
-        return 65;
+        return None;
     }
     if !operand_fits(t, kin, h, 0, Ty::class((w / 2048 % 32) as u16)) {
-        return 65;
+        return None;
     }
-    if room(h, 1, 1, most) != 0 {
-        return 65;
+    if room(h, 1, 1, most).is_err() {
+        return None;
     }
     let of = described((w / 8 % 256) as u8);
     let g = put(t, h, 1, of);
-    g.depth
+    Some(Went::On(g.depth))
 }
 
-fn put_field(t: &[u8], kin: Kin, h: Held, most: usize, w: u32) -> usize
-    requires { Roomy t.now h × (h.depth ≤ 32) }
+fn put_field(t: &[u8], kin: Kin, h: Held, most: usize, w: u32) -> Option<Went>
+    requires { Roomy t.now h }
     ensures { PutsField t.now kin most h w result }
 {
     if w % 8 != 3 {
-        return 65;
+        return None;
     }
     if h.depth < 2 {
-        return 65;
+        return None;
     }
     let of = described((w / 8 % 256) as u8);
     if !operand_fits(t, kin, h, 0, of) {
-        return 65;
+        return None;
     }
     if !operand_fits(t, kin, h, 1, Ty::class((w / 2048 % 32) as u16)) {
-        return 65;
+        return None;
     }
-    if room(h, 2, 0, most) != 0 {
-        return 65;
+    if room(h, 2, 0, most).is_err() {
+        return None;
     }
-    h.depth - 2
+    Some(Went::On(h.depth - 2))
 }
 
 // A class without brackets; the locals' old copies count as top.
-fn new_object(t: &mut [u8], h: Held, most: usize, o: u16, w: u32) -> usize
+fn new_object(t: &mut [u8], h: Held, most: usize, o: u16, w: u32) -> Option<Went>
     requires { Roomy t.old h × (h.depth ≤ 32) }
     ensures { MakesNew t.old t.new most h o w result }
 {
     if w % 64 != 2 {
-        return 65;
+        return None;
     }
     let key = Ty::uninit(o);
     if !no_copy(t, h, key) {
-        return 65;
+        return None;
     }
-    if room(h, 0, 1, most) != 0 {
-        return 65;
+    if room(h, 0, 1, most).is_err() {
+        return None;
     }
     replace_locals(t, h, key, Ty::top());
     let g = put(t, h, 0, key);
-    g.depth
+    Some(Went::On(g.depth))
 }
 
 // What names something.
@@ -117,7 +117,7 @@ pub fn names(
     code: &[u8],
     o: u16,
     op: usize,
-) -> usize
+) -> Option<Went>
     requires { Open s.now t.old x kin f h o × (code.now ≡ site_code s.now x) × (op ≡ get_or code.now o 0) }
     ensures { Tried s.now t.old t.new x f true h o result }
 {
@@ -155,76 +155,76 @@ pub fn names(
 
 // ---- Arrays, and tests for null.
 
-fn load_element(t: &mut [u8], kin: Kin, h: Held, most: usize) -> usize
+fn load_element(t: &mut [u8], kin: Kin, h: Held, most: usize) -> Option<Went>
     requires { Roomy t.old h × (h.depth ≤ 32) }
     ensures { LoadsElement t.old t.new kin most h result }
 {
     if h.depth < 2 {
-        return 65;
+        return None;
     }
     if !operand_fits(t, kin, h, 0, Ty::int()) {
-        return 65;
+        return None;
     }
     if !operand_fits(t, kin, h, 1, Ty::array(65535, 0)) {
-        return 65;
+        return None;
     }
-    if room(h, 2, 1, most) != 0 {
-        return 65;
+    if room(h, 2, 1, most).is_err() {
+        return None;
     }
     let g = put(t, h, 2, Ty::int());
-    g.depth
+    Some(Went::On(g.depth))
 }
 
-fn store_element(t: &[u8], kin: Kin, h: Held, most: usize) -> usize
-    requires { Roomy t.now h × (h.depth ≤ 32) }
+fn store_element(t: &[u8], kin: Kin, h: Held, most: usize) -> Option<Went>
+    requires { Roomy t.now h }
     ensures { StoresElement t.now kin most h result }
 {
     if h.depth < 3 {
-        return 65;
+        return None;
     }
     let w = Ty::int();
     if !operand_fits(t, kin, h, 0, w) {
-        return 65;
+        return None;
     }
     if !operand_fits(t, kin, h, 1, w) {
-        return 65;
+        return None;
     }
     if !operand_fits(t, kin, h, 2, Ty::array(65535, 0)) {
-        return 65;
+        return None;
     }
-    if room(h, 3, 0, most) != 0 {
-        return 65;
+    if room(h, 3, 0, most).is_err() {
+        return None;
     }
-    h.depth - 3
+    Some(Went::On(h.depth - 3))
 }
 
-fn measure(t: &mut [u8], h: Held, most: usize) -> usize
+fn measure(t: &mut [u8], h: Held, most: usize) -> Option<Went>
     requires { Roomy t.old h × (h.depth ≤ 32) }
     ensures { Measures t.old t.new most h result }
 {
     if h.depth < 1 {
-        return 65;
+        return None;
     }
     let w = peek(t, h, 0);
     if !w.is_array() {
-        return 65;
+        return None;
     }
-    if room(h, 1, 1, most) != 0 {
-        return 65;
+    if room(h, 1, 1, most).is_err() {
+        return None;
     }
     let g = put(t, h, 1, Ty::int());
-    g.depth
+    Some(Went::On(g.depth))
 }
 
-fn test_null(t: &[u8], kin: Kin, f: Rows, h: Held, most: usize, o: u16) -> usize
-    requires { Roomy t.now h × (h.depth ≤ 32) × Laid t.now f }
+fn test_null(t: &[u8], kin: Kin, f: Rows, h: Held, most: usize, o: u16) -> Option<Went>
+    requires { Roomy t.now h × Laid t.now f }
     ensures { TestsNull t.now kin f most h o result }
 {
     if h.depth < 1 {
-        return 65;
+        return None;
     }
     if !operand_fits(t, kin, h, 0, Ty::class(0)) {
-        return 65;
+        return None;
     }
     branch(t, kin, f, h, most, 1, o)
 }
@@ -239,7 +239,7 @@ fn references(
     code: &[u8],
     o: u16,
     op: usize,
-) -> usize
+) -> Option<Went>
     requires { Open s.now t.old x kin f h o × (code.now ≡ site_code s.now x) × (op ≡ get_or code.now o 0) }
     ensures { Tried s.now t.old t.new x f true h o result }
 {
@@ -255,55 +255,55 @@ fn references(
 
 // ---- Returns; back is the code of the method's result, 256 where it has none. No constructor leaves with the flag set.
 
-fn leave_int(t: &[u8], h: Held, back: usize) -> usize
+fn leave_int(t: &[u8], h: Held, back: usize) -> Option<Went>
     requires { Roomy t.now h }
     ensures { (L : Program) → Leaves L t.now h back Ireturn result }
 {
     if h.flag {
-        return 65;
+        return None;
     }
     if back != 248 {
-        return 65;
+        return None;
     }
     if one_int(t, h) {
-        return 64;
+        return Some(Went::Off);
     }
-    65
+    None
 }
 
-fn leave_reference(t: &[u8], kin: Kin, h: Held, back: usize) -> usize
+fn leave_reference(t: &[u8], kin: Kin, h: Held, back: usize) -> Option<Went>
     requires { Roomy t.now h × (back ≤ 256) }
     ensures { Leaves (lineage t.now kin.at kin.count) t.now h back Areturn result }
 {
     if h.flag {
-        return 65;
+        return None;
     }
     if back == 256 {
-        return 65;
+        return None;
     }
     if h.depth < 1 {
-        return 65;
+        return None;
     }
     let w = described(back as u8);
     if w.is_int() {
-        return 65;
+        return None;
     }
     if operand_fits(t, kin, h, 0, w) {
-        return 64;
+        return Some(Went::Off);
     }
-    65
+    None
 }
 
-fn leave_bare(h: Held, back: usize) -> usize
+fn leave_bare(h: Held, back: usize) -> Option<Went>
     ensures { (L : Program) (t : List ℕ) → Leaves L t h back Return result }
 {
     if h.flag {
-        return 65;
+        return None;
     }
     if back == 256 {
-        return 64;
+        return Some(Went::Off);
     }
-    65
+    None
 }
 
 fn returns(
@@ -316,7 +316,7 @@ fn returns(
     code: &[u8],
     o: u16,
     op: usize,
-) -> usize
+) -> Option<Went>
     requires { Open s.now t.old x kin f h o × (code.now ≡ site_code s.now x) × (op ≡ get_or code.now o 0) }
     ensures { Tried s.now t.old t.new x f true h o result }
 {

@@ -51,11 +51,9 @@ fn fill(t: &mut [u8], x: Site, n: usize)
     requires { (x.class < 16) × (x.method < 64) × (n ≤ 32) × (65288 ≤ length t.old / 4) }
     ensures { Filled t.old t.new x n }
 {
-    let mut j = 0;
-    while j < n {
+    for j in 0..n {
         let w = local_type(t, x, j);
         kit::put_word(t, 65184 + j, w.word);
-        j += 1;
     }
 }
 

@@ -7,6 +7,7 @@ use crate::typing;
 use reader::outlet;
 use reader::outlet::Answer;
 use shaping::whole::read_shaped;
+use texts::faults::Refusal;
 
 // The bundle's verdict; the scratch ends all zero, unless it is too short (20).
 pub fn verify(s: &[u8], t: &mut [u8]) -> Answer
@@ -14,24 +15,29 @@ pub fn verify(s: &[u8], t: &mut [u8]) -> Answer
 {
     if t.len() < 262144 {
         return Answer {
-            number: 20,
+            number: Refusal::Lent.number() as usize,
             class: 65535,
             method: 65535,
             place: 0,
         };
     }
-    let r = read_shaped(s, t);
-    if !r.ok {
-        kit::clear(t);
-        return r.answer;
-    }
-    let v = typing::type_all(s, t, r.classes);
+    let n = match read_shaped(s, t) {
+        Ok(n) => n,
+        Err(answer) => {
+            kit::clear(t);
+            return answer;
+        }
+    };
+    let typed = typing::type_all(s, t, n);
     kit::clear(t);
-    Answer {
-        number: v.number as usize,
-        class: v.class,
-        method: v.method,
-        place: v.place,
+    match typed {
+        Ok(()) => Answer {
+            number: 0,
+            class: 65535,
+            method: 65535,
+            place: 0,
+        },
+        Err(e) => Answer::from(e),
     }
 }
 

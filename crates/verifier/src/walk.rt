@@ -1,14 +1,15 @@
 // The walk over a method's code: one instruction after another, by offset.
-ghost use Rattle.std.specs.Prelude.{◌≡◌, true, false, ◌+◌, ◌*◌, ◌^◌, ◌<◌, ◌≤◌, ◌/◌, length, get_or};
+ghost use Rattle.std.specs.Prelude.{◌≡◌, true, false, ◌+◌, ◌*◌, ◌^◌, ◌<◌, ◌≤◌, ◌/◌, IfOk, is_some, length, get_or};
 ghost use Rattle.std.proofs.Math.Option.{none};
-ghost use Rattle.kit.specs.Claims.{is, verdict};
+ghost use Rattle.kit.specs.Claims.{ruled, verdict};
+ghost use Rattle.texts.specs.Faults.{number};
 ghost use Rattle.classfiles.specs.Attributes.{handlers_from};
 ghost use Rattle.reader.specs.BuiltIns.{first_class};
 ghost use Rattle.rules.specs.Walk.{frame_at, meets, merged};
 ghost use Rattle.rules.specs.Ancestry.{lineage};
 ghost use Rattle.rules.specs.Rule.{key_of};
 ghost use Rattle.rules.specs.TypeWords.{type_of};
-ghost use Rattle.rules.specs.Slots.{held, locals_of, veil, Placed, Roomy, Outside};
+ghost use Rattle.rules.specs.Slots.{held, locals_of, veil, hidden_key, Placed, Roomy, Outside};
 ghost use Rattle.rules.specs.FrameRows.{frames_of, Laid};
 ghost use Rattle.rules.specs.Handlers.{catch_in, handlers_by};
 ghost use Rattle.rules.specs.Sites.{site_code};
@@ -24,25 +25,19 @@ ghost use Rattle.verifier.specs.MethodWalks.{Placeable, MethodWalked};
 
 use crate::ahead::{Ahead, scout};
 use crate::callees::known;
-use crate::quick::{keeps_locals, quick};
+use crate::quick::{Went, keeps_locals, quick};
 use crate::start::start;
 use rules::calls::Known;
 use rules::decode;
-use rules::dispatch::{ask, falls_on, hides, jump, leave};
+use rules::dispatch::{ask, falls_on, hidden, jump, leave};
 use rules::frames::{Rows, find, load};
 use rules::handlers::all_handlers;
 use rules::instruction::Instr;
 use rules::opcodes::size_at;
-use rules::site::{Ruled, Site};
-use rules::slots::{Held, fit_states, must, peek};
+use rules::site::Site;
+use rules::slots::{Held, fit_states, must};
 use rules::types::{Kin, Ty};
-
-// A refusal, 0 for none, and where none the state that goes on.
-#[derive(Clone, Copy)]
-pub struct Step {
-    pub refusal: u32,
-    pub held: Held,
-}
+use texts::faults::{Fault, Refusal};
 
 // What the handlers ask; nothing where they have been asked and nothing is hidden from them.
 fn handlers_left(
@@ -52,23 +47,22 @@ fn handlers_left(
     kin: Kin,
     f: Rows,
     h: Held,
-    hide: bool,
-    key: Ty,
+    hidden: Option<Ty>,
     o: usize,
     asked: bool,
-) -> u32
+) -> Result<(), Refusal>
     requires { Handled s.now t.now x kin f h o asked × (x.classes ≤ 16) × Laid t.now f × Placed t.now h × (x.table ≤ 2 ^ 63) × (x.entries ≤ 32) }
-    ensures { is result ≡ verdict (handlers_by (lineage t.now kin.at kin.count) (catch_in t.now x.class (first_class + x.classes)) (frames_of t.now f) o h.flag (veil hide (key_of (type_of key.word)) (locals_of t.now h)) (handlers_from s.now x.entries x.table)) }
+    ensures { ruled number result ≡ verdict (handlers_by (lineage t.now kin.at kin.count) (catch_in t.now x.class (first_class + x.classes)) (frames_of t.now f) o h.flag (veil (is_some hidden) (hidden_key hidden) (locals_of t.now h)) (handlers_from s.now x.entries x.table)) }
 {
     if asked {
-        if !hide {
-            return 0;
+        if hidden.is_none() {
+            return Ok(());
         }
     }
-    all_handlers(s, t, x, kin, f, h, hide, key, o)
+    all_handlers(s, t, x, kin, f, h, hidden, o)
 }
 
-// All that is asked of the instruction i at o in the state h; where nothing is refused, the state after it.
+// All that is asked of the instruction i at o in the state h, and the state after it.
 fn one_step(
     s: &[u8],
     t: &mut [u8],
@@ -80,76 +74,42 @@ fn one_step(
     k: Known,
     o: u16,
     asked: bool,
-) -> Step
+) -> Result<Held, Refusal>
     requires { Roomy t.old h × (h.depth ≤ 32) × (k.args.at + k.args.count ≤ length t.old / 4) × Laid t.old f × (kin.at + kin.count ≤ h.at) × (f.at + 68 * f.count ≤ h.at) × (x.classes ≤ 16) × (x.stack ≤ 32) × (x.table ≤ 2 ^ 63) × (x.entries ≤ 32) × Handled s.now t.old x kin f h o asked }
-    ensures says { is result.refusal ≡ verdict (step_by (lineage t.old kin.at kin.count) (catch_in t.old x.class (first_class + x.classes)) (frames_of t.old f) (handlers_from s.now x.entries x.table) x.stack (facts_of t.old k) o i (held t.old h)) }
-    ensures leaves { result.refusal ≡ 0 → held t.new result.held ≡ instr_after (facts_of t.old k) o i (held t.old h) }
-    ensures keeps { Going h result.held × Outside h.at t.old t.new }
+    ensures says { ruled number result ≡ verdict (step_by (lineage t.old kin.at kin.count) (catch_in t.old x.class (first_class + x.classes)) (frames_of t.old f) (handlers_from s.now x.entries x.table) x.stack (facts_of t.old k) o i (held t.old h)) }
+    ensures leaves { IfOk result (λ g. held t.new g ≡ instr_after (facts_of t.old k) o i (held t.old h)) }
+    ensures keeps { IfOk result (λ g. Going h g) × Outside h.at t.old t.new }
 {
-    let a = ask(t, kin, h, i, k, o, x.stack);
-    if a != 0 {
-        return Step {
-            refusal: a,
-            held: h,
-        };
-    }
+    ask(t, kin, h, i, k, o, x.stack)?;
     let args = k.args;
-    let key = peek(t, h, args.count);
-    let b = handlers_left(s, t, x, kin, f, h, hides(i), key, o as usize, asked);
-    if b != 0 {
-        return Step {
-            refusal: b,
-            held: h,
-        };
-    }
+    let unseen = hidden(t, h, i, args.count);
+    handlers_left(s, t, x, kin, f, h, unseen, o as usize, asked)?;
     let g = leave(t, h, i, k, o);
-    let e = jump(t, kin, f, g, i);
-    Step {
-        refusal: e,
-        held: g,
-    }
+    jump(t, kin, f, g, i)?;
+    Ok(g)
 }
 
 // A present state must fit a frame standing at o, which replaces it; neither is 17.
-fn enter(t: &mut [u8], kin: Kin, f: Rows, live: bool, h: Held, o: usize) -> Step
+fn enter(t: &mut [u8], kin: Kin, f: Rows, live: bool, h: Held, o: usize) -> Result<Held, Refusal>
     requires { Roomy t.old h × (h.depth ≤ 32) × Laid t.old f × (f.locals ≡ h.locals) × (f.at + 68 * f.count + 68 ≤ h.at) }
-    ensures says { is result.refusal ≡ verdict (meets (lineage t.old kin.at kin.count) (current live (held t.old h)) (frame_at (frames_of t.old f) o)) }
-    ensures leaves { result.refusal ≡ 0 → held t.new result.held ≡ merged (current live (held t.old h)) (frame_at (frames_of t.old f) o) }
-    ensures keeps { Going h result.held × Outside h.at t.old t.new }
+    ensures says { ruled number result ≡ verdict (meets (lineage t.old kin.at kin.count) (current live (held t.old h)) (frame_at (frames_of t.old f) o)) }
+    ensures leaves { IfOk result (λ g. held t.new g ≡ merged (current live (held t.old h)) (frame_at (frames_of t.old f) o)) }
+    ensures keeps { IfOk result (λ g. Going h g) × Outside h.at t.old t.new }
 {
-    let p = find(t, f, o);
-    let g = p.held;
-    if !p.there {
-        return Step {
-            refusal: must(live, 17),
-            held: h,
-        };
-    }
+    let Some(g) = find(t, f, o) else {
+        must(live, Refusal::Flow)?;
+        return Ok(h);
+    };
     if live {
-        let a = fit_states(t, kin, h, g);
-        if a != 0 {
-            return Step {
-                refusal: a,
-                held: h,
-            };
-        }
-        let r = load(t, g, h.at);
-        return Step {
-            refusal: 0,
-            held: r,
-        };
+        fit_states(t, kin, h, g)?;
+        return Ok(load(t, g, h.at));
     }
-    let r = load(t, g, h.at);
-    Step {
-        refusal: 0,
-        held: r,
-    }
+    Ok(load(t, g, h.at))
 }
 
-// What a line leaves: a refusal, 0 for none; whether a state goes on, and where it stands.
+// What a line leaves: whether a state goes on, and where it stands. No Option: the place is there where no state goes on, for the next frame's.
 #[derive(Clone, Copy)]
 pub struct Turn {
-    pub refusal: u32,
     pub live: bool,
     pub held: Held,
 }
@@ -164,7 +124,7 @@ fn one_line(
     h: Held,
     o: u16,
     asked: bool,
-) -> Turn
+) -> Result<Turn, Refusal>
     requires { Walking s.now t.old x kin f h × Entered t.old f h o × Handled s.now t.old x kin f h o asked }
     ensures { LineDone s.now t.old t.new x f true h o result }
 {
@@ -173,16 +133,14 @@ fn one_line(
     let code = &s[from..to];
     let i = decode::instruction(s, t, x.class, code, o as usize);
     let k = known(s, t, x, h, i);
-    let r = one_step(s, t, x, kin, f, h, i, k, o, asked);
-    let q = r.held;
-    Turn {
-        refusal: r.refusal,
+    let held = one_step(s, t, x, kin, f, h, i, k, o, asked)?;
+    Ok(Turn {
         live: falls_on(i),
-        held: q,
-    }
+        held,
+    })
 }
 
-// The same site, built anew where it is handed on out of line, so that the loop keeps its own in registers.
+// The same site, built anew where it is handed on out of line: a copy by assignment takes the loop's own out of registers.
 fn anew(x: Site) -> Site
     ensures { result ≡ x }
 {
@@ -206,18 +164,23 @@ fn anew(x: Site) -> Site
 }
 
 // As `enter`, without looking for a frame where none stands at o.
-fn arrive(t: &mut [u8], kin: Kin, f: Rows, live: bool, h: Held, o: usize, clear: bool) -> Step
+fn arrive(
+    t: &mut [u8],
+    kin: Kin,
+    f: Rows,
+    live: bool,
+    h: Held,
+    o: usize,
+    clear: bool,
+) -> Result<Held, Refusal>
     requires { Roomy t.old h × (h.depth ≤ 32) × Laid t.old f × (f.locals ≡ h.locals) × (f.at + 68 * f.count + 68 ≤ h.at) × (clear ≡ true → frame_at (frames_of t.old f) o ≡ none) }
-    ensures says { is result.refusal ≡ verdict (meets (lineage t.old kin.at kin.count) (current live (held t.old h)) (frame_at (frames_of t.old f) o)) }
-    ensures leaves { result.refusal ≡ 0 → held t.new result.held ≡ merged (current live (held t.old h)) (frame_at (frames_of t.old f) o) }
-    ensures keeps { Going h result.held × Outside h.at t.old t.new }
+    ensures says { ruled number result ≡ verdict (meets (lineage t.old kin.at kin.count) (current live (held t.old h)) (frame_at (frames_of t.old f) o)) }
+    ensures leaves { IfOk result (λ g. held t.new g ≡ merged (current live (held t.old h)) (frame_at (frames_of t.old f) o)) }
+    ensures keeps { IfOk result (λ g. Going h g) × Outside h.at t.old t.new }
 {
     if live {
         if clear {
-            return Step {
-                refusal: 0,
-                held: h,
-            };
+            return Ok(h);
         }
     }
     enter(t, kin, f, live, h, o)
@@ -231,24 +194,17 @@ fn calm(s: &[u8], t: &[u8], x: Site, kin: Kin, f: Rows, h: Held, o: usize, quiet
     if o < quiet {
         return true;
     }
-    let r = all_handlers(s, t, anew(x), kin, f, h, false, Ty::top(), o);
-    r == 0
+    all_handlers(s, t, anew(x), kin, f, h, None, o).is_ok()
 }
 
 // A state at the code's end is 17 there.
-fn ended(live: bool, end: usize) -> Ruled
+fn ended(live: bool, end: usize) -> Result<(), Fault>
     ensures { Ended live end result }
 {
     if live {
-        return Ruled {
-            number: 17,
-            place: end,
-        };
+        return Err(Fault(Refusal::Flow, end));
     }
-    Ruled {
-        number: 0,
-        place: 0,
-    }
+    Ok(())
 }
 
 // The state's place at another depth and flag.
@@ -322,20 +278,20 @@ fn by_opcodes(
     requires { Open s.now t.old x kin f h from × (code.now ≡ site_code s.now x) × (from < length code.now) × Unmet s.now t.old x f from loose till }
     ensures { Stretched s.now t.old t.new x kin f h from result }
 {
+    // No `for`: an instruction's size is the step.
     let mut o = from;
     let mut depth = h.depth;
     while o < code.len() {
         let g = placed(h, depth, h.flag);
-        let v = quick(s, t, x, kin, f, g, code, o as u16);
-        if v == 65 {
+        let Some(went) = quick(s, t, x, kin, f, g, code, o as u16) else {
             return stopped(o, depth, true, true);
-        }
+        };
         let same = asks_same(code, o, loose);
         o = next(code, o);
-        if v == 64 {
+        let Went::On(left) = went else {
             return stopped(o, depth, false, false);
-        }
-        depth = v;
+        };
+        depth = left;
         if !same {
             return stopped(o, depth, true, false);
         }
@@ -346,10 +302,9 @@ fn by_opcodes(
     stopped(o, depth, true, false)
 }
 
-// What lines in a row leave: a refusal, 0 for none, and its offset; otherwise the next offset and the state that goes on there.
+// What lines in a row leave: the next offset and the state that goes on there, if one is live.
 #[derive(Clone, Copy)]
 pub struct Leg {
-    pub refusal: u32,
     pub o: usize,
     pub live: bool,
     pub held: Held,
@@ -366,25 +321,17 @@ fn decoded(
     code: &[u8],
     o: usize,
     asked: bool,
-) -> Leg
+) -> Result<Leg, Fault>
     requires { Walking s.now t.old x kin f h × Entered t.old f h o × Handled s.now t.old x kin f h o asked × (code.now ≡ site_code s.now x) × (o < length code.now) }
     ensures { LegDone s.now t.old t.new x f true h o result }
 {
-    let r = one_line(s, t, x, kin, f, h, o as u16, asked);
-    let g = r.held;
-    if r.refusal != 0 {
-        return Leg {
-            refusal: r.refusal,
-            o,
-            live: false,
-            held: g,
-        };
-    }
-    Leg {
-        refusal: 0,
-        o: next(code, o),
-        live: r.live,
-        held: g,
+    match one_line(s, t, x, kin, f, h, o as u16, asked) {
+        Ok(turn) => Ok(Leg {
+            o: next(code, o),
+            live: turn.live,
+            held: turn.held,
+        }),
+        Err(refusal) => Err(Fault(refusal, o)),
     }
 }
 
@@ -400,20 +347,14 @@ fn leg_from(
     code: &[u8],
     o: usize,
     z: Ahead,
-) -> Leg
+) -> Result<Leg, Fault>
     requires { Walking s.now t.old x kin f h × (code.now ≡ site_code s.now x) × (o < length code.now) × Scouted s.now t.old x f o z }
     ensures { LegDone s.now t.old t.new x f live h o result }
 {
-    let e = arrive(t, kin, f, live, h, o, z.clear);
-    let g = e.held;
-    if e.refusal != 0 {
-        return Leg {
-            refusal: e.refusal,
-            o,
-            live: false,
-            held: g,
-        };
-    }
+    let g = match arrive(t, kin, f, live, h, o, z.clear) {
+        Ok(g) => g,
+        Err(refusal) => return Err(Fault(refusal, o)),
+    };
     if !calm(s, t, x, kin, f, g, o, z.quiet) {
         return decoded(s, t, anew(x), kin, f, g, code, o, false);
     }
@@ -422,16 +363,15 @@ fn leg_from(
     if k.stuck {
         return decoded(s, t, anew(x), kin, f, q, code, k.o, true);
     }
-    Leg {
-        refusal: 0,
+    Ok(Leg {
         o: k.o,
         live: k.live,
         held: q,
-    }
+    })
 }
 
 // The walk over the code at x from the state h: lines in order, by offset.
-fn over_lines(s: &[u8], t: &mut [u8], x: Site, kin: Kin, f: Rows, h: Held) -> Ruled
+fn over_lines(s: &[u8], t: &mut [u8], x: Site, kin: Kin, f: Rows, h: Held) -> Result<(), Fault>
     requires { Walking s.now t.old x kin f h }
     ensures { Walked s.now t.old t.new x f h result }
 {
@@ -439,6 +379,7 @@ fn over_lines(s: &[u8], t: &mut [u8], x: Site, kin: Kin, f: Rows, h: Held) -> Ru
     let to = x.end;
     let code = &s[from..to];
     let end = code.len();
+    // No `for`: an instruction's size is the step.
     let mut o = 0;
     let mut live = true;
     let mut depth = h.depth;
@@ -450,11 +391,7 @@ fn over_lines(s: &[u8], t: &mut [u8], x: Site, kin: Kin, f: Rows, h: Held) -> Ru
         row = z.row;
         quiet = z.quiet;
         let g = placed(h, depth, flag);
-        let r = leg_from(s, t, x, kin, f, live, g, code, o, z);
-        let number = r.refusal;
-        if number != 0 {
-            return Ruled { number, place: r.o };
-        }
+        let r = leg_from(s, t, x, kin, f, live, g, code, o, z)?;
         o = r.o;
         live = r.live;
         let q = r.held;
@@ -465,7 +402,7 @@ fn over_lines(s: &[u8], t: &mut [u8], x: Site, kin: Kin, f: Rows, h: Held) -> Ru
 }
 
 // The walk of the method at x from its start, with its frames at f.
-pub fn walk_method(s: &[u8], t: &mut [u8], x: Site, f: Rows) -> Ruled
+pub fn walk_method(s: &[u8], t: &mut [u8], x: Site, f: Rows) -> Result<(), Fault>
     requires { Placeable s.now t.old x f }
     ensures { MethodWalked s.now t.old t.new x f result }
 {

@@ -1,39 +1,19 @@
-use Rattle.classfiles.specs.Blocks.{head_at}
-use Rattle.texts.specs.Answers.{t_stop}
-use native.Mathlib.Omega.{arith}
-use borrow.Author.Tests.{not-false}
-use Rattle.classfiles.specs.Opening.{headed_bad, names_bad, names_ok, open_end}
+use Rattle.classfiles.specs.Opening.{headed_bad, names_bad, names_ok, open_end, opening_bad}
+use Rattle.std.proofs.Common.{arith}
 use Rattle.classfiles.proofs.bundle.class_head.Goals as goal
 
-pub returns-then-not-p : goal.returns-then-not-p
-unfolding head_at
-returns-then-not-p c = headed_bad _ _ c.opening-p.result _ c.if-not-p.true (t_stop _ _ c.opening-p.result _ _ c.opening-p.ensures.0 c.if-not-p.true)
+pub returns-in_err-p : goal.returns-in_err-p
+returns-in_err-p c = headed_bad _ _ _ _ _ c.from_residual.ensures.1 (opening_bad _ _ _ _ c.in_err-p.ensures.0)
 
-pub overflow_mul-e : goal.overflow_mul-e
-unfolding head_at
-overflow_mul-e c = omega (arith, c.opening-p.ensures.1 (not-false _ c.if-not-p.false))
-
-pub slice_bounds-class_names-end : goal.slice_bounds-class_names-end
-slice_bounds-class_names-end c = omega (arith, c.opening-p.ensures.1 (not-false _ c.if-not-p.false))
-
-pub returns-then-not-h : goal.returns-then-not-h
-unfolding head_at
-returns-then-not-h c =
-    names_bad _ _ _ c.opening-p.result c.class_names-h.result c.opening-p.ensures.0 c.if-not-p.false c.class_names-h.ensures c.if-not-h.true
-
-pub overflow_cast-p : goal.overflow_cast-p
-overflow_cast-p c =
-    omega (arith, c.opening-p.ensures.1 (not-false _ c.if-not-p.false))
+pub returns-in_err-at : goal.returns-in_err-at
+returns-in_err-at c = headed_bad _ _ _ _ _ c.from_residual-in_err-at.ensures.1 (names_bad _ _ _ _ _ c.in_ok-p.ensures.0 _ _ c.in_err-at.ensures)
 
 pub overflow_add-p : goal.overflow_add-p
-overflow_add-p c =
-    omega (arith, open_end _ _ c.opening-p.result _ c.opening-p.ensures.0 c.if-not-p.false)
+overflow_add-p c = omega (arith, open_end _ _ _ _ c.in_ok-p.ensures.0)
 
 pub overflow_cast-p-2 : goal.overflow_cast-p-2
-overflow_cast-p-2 c =
-    omega (arith, open_end _ _ c.opening-p.result _ c.opening-p.ensures.0 c.if-not-p.false)
+overflow_cast-p-2 c = omega (arith, open_end _ _ _ _ c.in_ok-p.ensures.0)
 
 pub returns : goal.returns
-unfolding head_at
 returns c =
-    names_ok _ _ _ c.opening-p.result c.class_names-h.result c.opening-p.ensures.0 c.if-not-p.false c.class_names-h.ensures c.if-not-h.false (omega arith) (c.opening-p.ensures.1 (not-false _ c.if-not-p.false)) (omega arith) (omega (arith, open_end _ _ c.opening-p.result _ c.opening-p.ensures.0 c.if-not-p.false)) _ c.put3.ensures
+    names_ok _ _ _ _ _ c.in_ok-p.ensures.0 _ c.in_ok-at.ensures (omega arith) c.in_ok-p.ensures.1 (omega arith) (omega (arith, open_end _ _ _ _ c.in_ok-p.ensures.0)) _ c.put3.ensures

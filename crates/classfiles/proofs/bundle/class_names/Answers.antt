@@ -1,21 +1,24 @@
 use Rattle.classfiles.specs.Blocks.{names_at}
-use Rattle.texts.specs.Answers.{reads, t_ok, as_ok}
-use Rattle.classfiles.specs.Opening.{as_value, access_end, this_end, names_as}
+use Rattle.classfiles.specs.Opening.{names_whole}
+use Rattle.classfiles.specs.Past.{forms}
 use Rattle.classfiles.proofs.bundle.class_names.Goals as goal
 
-pub returns-then-not-a : goal.returns-then-not-a
+pub returns-in_err-a : goal.returns-in_err-a
 unfolding names_at
-returns-then-not-a c = search reads depth 12
+returns-in_err-a c = search (forms, c.in_err-a.ensures) depth 14
 
-pub returns-then-not-this : goal.returns-then-not-this
+pub returns-in_err-b : goal.returns-in_err-b
 unfolding names_at
-returns-then-not-this c = search reads depth 12
+returns-in_err-b c = search (forms, c.in_ok-a.ensures, c.in_err-b.ensures) depth 14
 
-pub returns-then-not-above : goal.returns-then-not-above
+pub returns-in_err-c : goal.returns-in_err-c
 unfolding names_at
-returns-then-not-above c = search (reads, as_ok) depth 14
+returns-in_err-c c = search (forms, c.in_ok-a.ensures, c.in_ok-b.ensures, c.in_err-c.ensures) depth 14
+
+pub returns-in_err-d : goal.returns-in_err-d
+unfolding names_at
+returns-in_err-d c = search (forms, c.in_ok-a.ensures, c.in_ok-b.ensures, c.in_ok-c.ensures, c.in_err-d.ensures) depth 14
 
 pub returns : goal.returns
 unfolding names_at
-returns c =
-    t_ok _ _ _ c.class_access-a.result c.class_access-a.ensures c.if-not-a.false (as_ok _ _ _ c.this_class-this.result _ c.this_class-this.ensures c.if-not-this.false (as_ok _ _ _ c.super_class-above.result _ c.super_class-above.ensures c.if-not-above.false (as_value _ _ c.interfaces.result _ _ c.interfaces.ensures (λ t. names_as _ _ _ _ _ (access_end _ _ c.class_access-a.result c.class_access-a.ensures c.if-not-a.false) (this_end _ _ _ c.this_class-this.result _ c.this_class-this.ensures c.if-not-this.false)))))
+returns c = names_whole _ _ _ _ _ _ _ _ _ c.in_ok-a.ensures c.in_ok-b.ensures c.in_ok-c.ensures c.in_ok-d.ensures

@@ -2,14 +2,14 @@ use Rattle.classfiles.specs.Bundle.{interfaces_at}
 use Rattle.texts.specs.Answers.{reads}
 use Rattle.classfiles.proofs.bundle.interfaces.Goals as goal
 
-pub returns-then-not-n : goal.returns-then-not-n
+pub returns-in_err-n : goal.returns-in_err-n
 unfolding interfaces_at
-returns-then-not-n c = search reads depth 12
+returns-in_err-n c = search (reads, c.in_err-n.ensures) depth 12
 
 pub returns-then-n-eq0 : goal.returns-then-n-eq0
 unfolding interfaces_at
-returns-then-n-eq0 c = search reads depth 12
+returns-then-n-eq0 c = search (reads, c.in_ok-n.ensures) depth 12
 
 pub returns : goal.returns
 unfolding interfaces_at
-returns c = search reads depth 12
+returns c = search (reads, c.in_ok-n.ensures) depth 12

@@ -1,15 +1,15 @@
 use Rattle.classfiles.specs.Bundle.{bundle_at}
-use Rattle.texts.specs.Answers.{reads, never}
-use Rattle.kit.specs.Pick.{if_ne, if_ge}
+use Rattle.kit.specs.Pick.{if_ge, if_ne}
+use Rattle.texts.specs.Answers.{reads}
 use Rattle.classfiles.proofs.bundle.read_bundle.Goals as goal
 
 pub returns-then-s-eq0 : goal.returns-then-s-eq0
 unfolding bundle_at
-returns-then-s-eq0 c = (search reads depth 12, never)
+returns-then-s-eq0 c = (search reads depth 12, tt)
 
 pub returns-then-s-gt65536 : goal.returns-then-s-gt65536
 unfolding bundle_at
-returns-then-s-gt65536 c = (search reads depth 12, never)
+returns-then-s-gt65536 c = (search reads depth 12, tt)
 
 pub returns : goal.returns
 unfolding bundle_at

@@ -1,13 +1,16 @@
 use Rattle.classfiles.specs.Bundle.{this_at}
-use Rattle.texts.specs.Answers.{reads, t_ok}
-use Rattle.classfiles.specs.Opening.{this_value}
+use Rattle.classfiles.specs.Opening.{this_ok}
+use Rattle.classfiles.specs.Past.{forms}
 use Rattle.classfiles.proofs.bundle.this_class.Goals as goal
 
-pub returns-then-not-i : goal.returns-then-not-i
+pub returns-in_err-i : goal.returns-in_err-i
 unfolding this_at
-returns-then-not-i c = search reads depth 12
+returns-in_err-i c = search (forms, c.in_err-i.ensures) depth 12
+
+pub returns-in_err-c : goal.returns-in_err-c
+unfolding this_at
+returns-in_err-c c = search (forms, c.in_ok-i.ensures, c.in_err-c.ensures) depth 12
 
 pub returns : goal.returns
 unfolding this_at
-returns c =
-    t_ok _ _ _ c.u2-i.result c.u2-i.ensures c.if-not-i.false (this_value _ _ _ c.u2-i.result c.class_index.result c.u2-i.ensures c.if-not-i.false c.class_index.ensures)
+returns c = this_ok _ _ _ _ _ c.in_ok-i.ensures _ _ c.in_ok-c.ensures

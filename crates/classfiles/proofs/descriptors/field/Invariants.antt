@@ -1,9 +1,6 @@
-use mathlib.Core.Path.{◌≡◌}
+use Rattle.std.specs.Prelude.{◌≡◌, ◌-◌}
 use Rattle.classfiles.specs.Shapes.{type_shape}
 use Rattle.classfiles.proofs.descriptors.field.Given as goal
 
-abbrev pub invariant-loop-left : goal.invariant-loop-left
-invariant-loop-left l = type_shape l.t l.p l.left l.at ≡ type_shape l.t l.p 7 l.q
-
-abbrev pub decreases-loop-left : goal.decreases-loop-left
-decreases-loop-left l = l.left
+abbrev pub invariant-loop-i : goal.invariant-loop-i
+invariant-loop-i l = type_shape l.t l.p (7 - l._i) l.at ≡ type_shape l.t l.p 7 l.q

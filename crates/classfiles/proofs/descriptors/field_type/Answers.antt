@@ -1,16 +1,16 @@
-use Rattle.kit.specs.Pick.{picks}
-use Rattle.texts.specs.Answers.{reads}
+use Rattle.classfiles.specs.Past.{forms}
 use Rattle.classfiles.specs.Shapes.{field_shape}
+use Rattle.kit.specs.Pick.{picks}
 use Rattle.classfiles.proofs.descriptors.field_type.Goals as goal
 
-pub returns-then-not-d : goal.returns-then-not-d
+pub returns-in_err-e : goal.returns-in_err-e
 unfolding field_shape
-returns-then-not-d c = search (reads, picks) depth 12
+returns-in_err-e c = search (forms, picks, c.in_err-e.ensures) depth 12
 
-pub returns-then-d-t : goal.returns-then-d-t
+pub returns-then-e-t : goal.returns-then-e-t
 unfolding field_shape
-returns-then-d-t c = search (reads, picks) depth 12
+returns-then-e-t c = search (forms, picks, c.in_ok-e.ensures) depth 12
 
 pub returns : goal.returns
 unfolding field_shape
-returns c = search (reads, picks) depth 12
+returns c = search (forms, picks, c.in_ok-e.ensures) depth 12

@@ -1,8 +1,6 @@
-use Prim.Native.Nat.{ℕ}
-use mathlib.Core.Path.{ap}
-use mathlib.Core.Bool.{not}
-use lib.Dec.{eqb}
 use Rattle.classfiles.specs.Descriptors.{in_name}
+use Rattle.std.proofs.Common.{ap}
+use Rattle.std.specs.Prelude.{eqb, not, ℕ}
 use Rattle.classfiles.proofs.descriptors.in_name.Goals as goal
 
 pub returns : goal.returns

@@ -1,12 +1,7 @@
+use Rattle.std.specs.Prelude.{◌≡◌, ◌-◌, length}
 use Rattle.kit.specs.Scan.{first_not}
-use Prim.Native.Nat.{◌-◌}
-use mathlib.Core.Path.{◌≡◌}
-use lib.ListN.{length}
 use Rattle.classfiles.specs.Descriptors.{in_name}
 use Rattle.classfiles.proofs.descriptors.semicolon.Given as goal
 
 abbrev pub invariant-loop-i : goal.invariant-loop-i
 invariant-loop-i l = first_not (in_name l.t) (length l.t - l.i) l.i ≡ first_not (in_name l.t) (length l.t - l.q) l.q
-
-abbrev pub decreases-loop-i : goal.decreases-loop-i
-decreases-loop-i l = length l.t - l.i

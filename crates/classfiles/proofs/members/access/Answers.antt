@@ -2,22 +2,22 @@ use Rattle.classfiles.specs.Signatures.{access_by}
 use Rattle.texts.specs.Answers.{reads}
 use Rattle.classfiles.proofs.members.access.Goals as goal
 
-pub returns-then-not-v : goal.returns-then-not-v
+pub returns-in_err-v : goal.returns-in_err-v
 unfolding access_by
-returns-then-not-v c = search reads depth 12
+returns-in_err-v c = search (reads, c.in_err-v.ensures) depth 12
 
 pub returns-then-v-eq1 : goal.returns-then-v-eq1
 unfolding access_by
-returns-then-v-eq1 c = search reads depth 12
+returns-then-v-eq1 c = search (reads, c.in_ok-v.ensures) depth 12
 
 pub returns-then-v-eq9 : goal.returns-then-v-eq9
 unfolding access_by
-returns-then-v-eq9 c = search reads depth 12
+returns-then-v-eq9 c = search (reads, c.in_ok-v.ensures) depth 12
 
-pub returns-then-method : goal.returns-then-method
+pub returns-else-v-eq9 : goal.returns-else-v-eq9
 unfolding access_by
-returns-then-method c = search reads depth 12
+returns-else-v-eq9 c = search (reads, c.in_ok-v.ensures) depth 12
 
-pub returns : goal.returns
+pub returns-else-method : goal.returns-else-method
 unfolding access_by
-returns c = search reads depth 12
+returns-else-method c = search (reads, c.in_ok-v.ensures) depth 12

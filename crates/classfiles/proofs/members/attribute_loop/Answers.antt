@@ -1,27 +1,23 @@
-use native.Mathlib.Omega.{arith}
-use mathlib.Core.Path.{ap}
-use Rattle.texts.specs.Reading.{sum_at}
+use Rattle.classfiles.specs.Attributes.{body_of}
+use Rattle.classfiles.specs.Contents.{another_seen, content_in}
+use Rattle.classfiles.specs.Loops.{sum_bad, sum_more, sum_none}
+use Rattle.classfiles.specs.Members.{another, attribute_at}
+use Rattle.classfiles.specs.Past.{res_err}
 use Rattle.classfiles.specs.Table.{pool_in}
-use Rattle.classfiles.specs.Loops.{sum_none, sum_bad}
-use Rattle.classfiles.specs.Members.{Found, Body, another, attribute_at}
-use Rattle.classfiles.specs.Attributes.{found_none}
-use Rattle.classfiles.specs.Contents.{sum_on}
+use Rattle.std.proofs.Common.{◌∙◌}
 use Rattle.classfiles.proofs.members.attribute_loop.Goals as goal
 
-pub loop-left-init : goal.loop-left-init
-loop-left-init c = let a = c.args in ap (λ (x : Found Body). sum_at (attribute_at a.s.now (pool_in a.s.now a.tags.now) a.method) another a.n x a.from) (found_none _ _ c.no_code-sum.ensures)
+pub returns-in_err-g : goal.returns-in_err-g
+returns-in_err-g c =
+    let a = c.args in
+    res_err _ _ _ c.from_residual.ensures.1 ∙ sum_bad (attribute_at a.s.now (pool_in a.s.now a.tags.now) a.method) another _ _ _ _ _ c.loop-i.invariant c.loop-i-test.true _ _ c.in_err-g.ensures
 
-pub returns-then-not-got : goal.returns-then-not-got
-returns-then-not-got c = let a = c.args in sum_bad (attribute_at a.s.now (pool_in a.s.now a.tags.now) a.method) another _ _ _ _ c.loop-left.invariant c.attribute-g.result.got _ c.loop-left-test.true c.attribute-g.ensures _ c.if-not-got.true
-
-pub overflow_sub-left : goal.overflow_sub-left
-overflow_sub-left c = omega arith
-
-pub loop-left-smaller : goal.loop-left-smaller
-loop-left-smaller c = omega arith
-
-pub loop-left-preserved : goal.loop-left-preserved
-loop-left-preserved c = let a = c.args in sum_on (attribute_at a.s.now (pool_in a.s.now a.tags.now) a.method) another _ _ _ _ c.loop-left.invariant c.attribute-g.result.got _ c.loop-left-test.true c.attribute-g.ensures c.if-not-got.false _ (c.code_tally-sum.ensures.both a.s.now)
+pub loop-i-preserved : goal.loop-i-preserved
+loop-i-preserved c =
+    let a = c.args in
+    sum_more (attribute_at a.s.now (pool_in a.s.now a.tags.now) a.method) another _ _ _ _ _ c.loop-i.invariant c.loop-i-test.true _ _ c.in_ok-g.ensures _ (another_seen (λ x. body_of c.args.s.now x.start (content_in c.args.s.now x.frames)) _ _ _ c.another-sum.ensures)
 
 pub returns : goal.returns
-returns c = let a = c.args in sum_none (attribute_at a.s.now (pool_in a.s.now a.tags.now) a.method) another _ _ _ _ c.loop-left.invariant c.loop-left-test.false
+returns c =
+    let a = c.args in
+    sum_none (attribute_at a.s.now (pool_in a.s.now a.tags.now) a.method) another _ _ _ _ _ c.loop-i.invariant c.loop-i-test.false

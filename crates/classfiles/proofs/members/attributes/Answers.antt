@@ -1,11 +1,11 @@
-use Rattle.classfiles.specs.Contents.{notes}
 use Rattle.classfiles.specs.Members.{attributes_at}
+use Rattle.texts.specs.Answers.{reads}
 use Rattle.classfiles.proofs.members.attributes.Goals as goal
 
-pub returns-then-not-n : goal.returns-then-not-n
+pub returns-in_err-n : goal.returns-in_err-n
 unfolding attributes_at
-returns-then-not-n c = search notes depth 10
+returns-in_err-n c = search (reads, c.in_err-n.ensures) depth 12
 
 pub returns : goal.returns
 unfolding attributes_at
-returns c = search notes depth 10
+returns c = search (reads, c.in_ok-n.ensures) depth 12

@@ -1,15 +1,15 @@
 use Rattle.classfiles.specs.Signatures.{descriptor_by, descriptor_via}
-use Rattle.classfiles.specs.Contents.{notes}
+use Rattle.texts.specs.Answers.{reads}
 use Rattle.classfiles.proofs.members.descriptor.Goals as goal
 
-pub returns-then-not-i : goal.returns-then-not-i
+pub returns-in_err-i : goal.returns-in_err-i
 unfolding descriptor_by
-returns-then-not-i c = search (descriptor_via, notes) depth 12
+returns-in_err-i c = search (descriptor_via, reads, c.in_err-i.ensures) depth 12
 
 pub returns-then-method : goal.returns-then-method
 unfolding descriptor_by
-returns-then-method c = search (descriptor_via, notes) depth 12
+returns-then-method c = search (descriptor_via, reads, c.in_ok-i.ensures) depth 12
 
 pub returns : goal.returns
 unfolding descriptor_by
-returns c = search (descriptor_via, notes) depth 12
+returns c = search (descriptor_via, reads, c.in_ok-i.ensures) depth 12

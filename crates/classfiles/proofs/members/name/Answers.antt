@@ -1,25 +1,23 @@
-use Rattle.kit.specs.Pick.{by_true, if_ne}
-use Rattle.texts.specs.Answers.{t_ok}
 use Rattle.classfiles.specs.Members.{name_at}
-use Rattle.classfiles.specs.Contents.{notes, as_done}
+use Rattle.texts.specs.Answers.{reads}
 use Rattle.classfiles.proofs.members.name.Goals as goal
 
-pub returns-then-not-i : goal.returns-then-not-i
+pub returns-in_err-i : goal.returns-in_err-i
 unfolding name_at
-returns-then-not-i c = search notes depth 12
+returns-in_err-i c = search (reads, c.in_err-i.ensures) depth 12
+
+pub returns-then-not-name_ok : goal.returns-then-not-name_ok
+unfolding name_at
+returns-then-not-name_ok c = search (reads, c.in_ok-i.ensures) depth 12
 
 pub returns-then-access-eq9 : goal.returns-then-access-eq9
 unfolding name_at
-returns-then-access-eq9 c = search notes depth 12
+returns-then-access-eq9 c = let h = rw c.text_of.ensures at c.is_init.ensures in search (reads, c.in_ok-i.ensures) depth 12
 
-pub returns-then-init_at : goal.returns-then-init_at
+pub returns-else-access-eq9 : goal.returns-else-access-eq9
 unfolding name_at
-returns-then-init_at c = search (t_ok, by_true, if_ne, as_done) depth 12
+returns-else-access-eq9 c = let h = rw c.text_of.ensures at c.is_init.ensures in search (reads, c.in_ok-i.ensures) depth 12
 
-pub returns-then-name_ok : goal.returns-then-name_ok
+pub returns-else-is_init : goal.returns-else-is_init
 unfolding name_at
-returns-then-name_ok c = search notes depth 12
-
-pub returns : goal.returns
-unfolding name_at
-returns c = search notes depth 12
+returns-else-is_init c = let h = rw c.text_of.ensures at c.is_init.ensures in search (reads, c.in_ok-i.ensures) depth 12

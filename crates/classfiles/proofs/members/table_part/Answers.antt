@@ -1,20 +1,20 @@
-use Rattle.classfiles.specs.Attributes.{table_by, short_val}
+use Rattle.classfiles.specs.Attributes.{short_val, table_by}
+use Rattle.std.proofs.Common.{arith}
 use Rattle.texts.specs.Answers.{reads}
-use native.Mathlib.Omega.{arith}
 use Rattle.classfiles.proofs.members.table_part.Goals as goal
 
-pub returns-then-not-n : goal.returns-then-not-n
+pub returns-in_err-n : goal.returns-in_err-n
 unfolding table_by
-returns-then-not-n c = search reads depth 12
+returns-in_err-n c = search (reads, c.in_err-n.ensures) depth 12
 
 pub overflow_mul-n : goal.overflow_mul-n
 unfolding table_by
-overflow_mul-n c = let h = short_val _ _ 7 _ 32 _ c.short-n.result c.short-n.ensures c.if-not-n.false in omega arith
+overflow_mul-n c = let h = short_val _ _ 7 _ 32 _ _ _ c.in_ok-n.ensures in omega arith
 
-pub returns-then-not-b : goal.returns-then-not-b
+pub returns-in_err-b : goal.returns-in_err-b
 unfolding table_by
-returns-then-not-b c = search reads depth 12
+returns-in_err-b c = search (reads, c.in_ok-n.ensures, c.in_err-b.ensures) depth 12
 
 pub returns : goal.returns
 unfolding table_by
-returns c = search reads depth 12
+returns c = search (reads, c.in_ok-n.ensures, c.in_ok-b.ensures) depth 12

@@ -1,7 +1,6 @@
-use mathlib.Core.Path.{◌∙◌}
 use Rattle.classfiles.specs.Pool.{tags_at}
 use Rattle.classfiles.specs.Table.{first_tag}
-use native.Mathlib.Omega.{arith}
+use Rattle.std.proofs.Common.{arith, ◌∙◌}
 use Rattle.classfiles.proofs.pool.all_tags.Goals as goal
 
 pub returns : goal.returns

@@ -1,5 +1,4 @@
-use native.Mathlib.Omega.{arith}
-use mathlib.Core.Path.{sym, ap}
+use Rattle.std.proofs.Common.{arith, sym, ap}
 use Rattle.kit.specs.Pick.{calls, picks}
 use Rattle.classfiles.specs.Pool.{is_class, class_index_at}
 use Rattle.classfiles.specs.Table.{class-text}

@@ -1,4 +1,4 @@
-use native.Mathlib.Omega.{arith}
+use Rattle.std.proofs.Common.{arith, ◌∙◌}
 use Rattle.classfiles.specs.Table.{class_none, class_some, zero-text}
 use Rattle.classfiles.specs.Tags.{tag_there, no-class, at_name}
 use Rattle.classfiles.proofs.pool.class_text_of.Goals as goal
@@ -9,8 +9,8 @@ overflow_add-q c =
 
 pub returns-then-byte-eq7 : goal.returns-then-byte-eq7
 returns-then-byte-eq7 c =
-    class_some _ _ _ _ _ (at_name c.args.s.now c.place-q.result _ c.byte.result (c.place-q.ensures c.args.s.now c.well_formed.0.0) c.byte.ensures.0 c.u2_at.result c.if-byte-eq7.true c.u2_at.ensures.0) c.text_of.ensures
+    c.text_of.ensures ∙ class_some _ _ _ (at_name c.args.s.now c.place-q.result _ c.byte.result (c.place-q.ensures c.args.s.now c.well_formed.0.0) c.byte.ensures.0 c.u2_at.result c.if-byte-eq7.true c.u2_at.ensures.0)
 
 pub returns : goal.returns
 returns c =
-    class_none _ _ _ (no-class c.args.s.now c.place-q.result _ c.byte.result (c.place-q.ensures c.args.s.now c.well_formed.0.0) c.byte.ensures.0 c.if-byte-eq7.false) (zero-text _ _)
+    class_none _ _ (no-class c.args.s.now c.place-q.result _ c.byte.result (c.place-q.ensures c.args.s.now c.well_formed.0.0) c.byte.ensures.0 c.if-byte-eq7.false) (zero-text _ _)

@@ -1,27 +1,24 @@
 use Rattle.classfiles.specs.Pool.{entry_size}
-use Rattle.kit.specs.Pick.{picks}
+use Rattle.std.proofs.Common.{arith}
+use Rattle.std.proofs.lemmas.Bool.Decides.{nat_tests}
 use Rattle.classfiles.proofs.pool.entry_size.Goals as goal
 
-pub returns-then-tag-eq3 : goal.returns-then-tag-eq3
+pub returns-in-7 : goal.returns-in-7
 unfolding entry_size
-returns-then-tag-eq3 c = search picks depth 12
+returns-in-7 c = (grind (arith, nat_tests), omega arith)
 
-pub returns-then-tag-eq7 : goal.returns-then-tag-eq7
+pub returns-in_default : goal.returns-in_default
 unfolding entry_size
-returns-then-tag-eq7 c = search picks depth 12
+returns-in_default c = (grind (arith, nat_tests), tt)
 
-pub returns-then-tag-eq9 : goal.returns-then-tag-eq9
+pub returns-in_default-2 : goal.returns-in_default-2
 unfolding entry_size
-returns-then-tag-eq9 c = search picks depth 12
+returns-in_default-2 c = (grind (arith, nat_tests), tt)
 
-pub returns-then-tag-eq10 : goal.returns-then-tag-eq10
+pub returns-in-3 : goal.returns-in-3
 unfolding entry_size
-returns-then-tag-eq10 c = search picks depth 12
+returns-in-3 c = (grind (arith, nat_tests), omega arith)
 
-pub returns-then-tag-eq12 : goal.returns-then-tag-eq12
+pub returns-in-3-2 : goal.returns-in-3-2
 unfolding entry_size
-returns-then-tag-eq12 c = search picks depth 12
-
-pub returns : goal.returns
-unfolding entry_size
-returns c = search picks depth 12
+returns-in-3-2 c = (grind (arith, nat_tests), omega arith)

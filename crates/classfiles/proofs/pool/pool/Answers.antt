@@ -1,49 +1,51 @@
-use Rattle.classfiles.specs.Faults.{table_ok, table_bad}
+use Rattle.classfiles.specs.Faults.{table_bad, table_ok}
+use Rattle.classfiles.specs.Past.{no_value, res_err}
 use Rattle.classfiles.specs.Pool.{pool_at}
-use native.Mathlib.Omega.{arith}
-use Rattle.texts.specs.Answers.{reads, t_ok, as_ok, no_value, never}
+use Rattle.kit.specs.Pick.{if_ge, if_ne}
+use Rattle.std.proofs.Common.{arith, ◌∙◌}
+use Rattle.texts.specs.Answers.{reads, t_ok}
 use Rattle.texts.specs.Ends.{u2_val}
-use Rattle.kit.specs.Pick.{if_ne, if_ge}
 use Rattle.classfiles.proofs.pool.pool.Goals as goal
 
-pub returns-then-not-n : goal.returns-then-not-n
+pub returns-in_err-n : goal.returns-in_err-n
 unfolding pool_at
-returns-then-not-n c = (search reads depth 12, no_value _ c.if-not-n.true)
+returns-in_err-n c = (search (reads, c.in_err-n.ensures) depth 12, no_value _ _ _ c.from_residual.ensures.1)
 
 pub returns-then-n-eq0 : goal.returns-then-n-eq0
 unfolding pool_at
-returns-then-n-eq0 c = (search reads depth 12, never)
+returns-then-n-eq0 c = (search (reads, c.in_ok-n.ensures) depth 12, tt)
 
 pub returns-then-n-gt1024 : goal.returns-then-n-gt1024
 unfolding pool_at
-returns-then-n-gt1024 c = (search reads depth 12, never)
+returns-then-n-gt1024 c = (search (reads, c.in_ok-n.ensures) depth 12, tt)
 
-pub all_tags-g-requires : goal.all_tags-g-requires
-all_tags-g-requires c =
-    (omega arith, (u2_val _ _ c.u2-n.result c.u2-n.ensures c.if-not-n.false).2, omega arith, omega arith)
-
-pub returns-then-not-g : goal.returns-then-not-g
+pub all_tags-requires : goal.all_tags-requires
 unfolding pool_at
-returns-then-not-g c = (search reads depth 14, no_value _ c.if-not-g.true)
+all_tags-requires c =
+    (omega arith, (u2_val _ _ _ _ c.in_ok-n.ensures).2, omega arith, omega arith)
 
-pub returns-then-not-c : goal.returns-then-not-c
+pub returns-in_err-z : goal.returns-in_err-z
 unfolding pool_at
-returns-then-not-c c = (
-  t_ok _ _ _ c.u2-n.result c.u2-n.ensures c.if-not-n.false
+returns-in_err-z c = (search (reads, c.in_ok-n.ensures, c.in_err-z.ensures) depth 14, no_value _ _ _ c.from_residual-in_err-z.ensures.1)
+
+pub returns-in_err-at : goal.returns-in_err-at
+unfolding pool_at
+returns-in_err-at c = (
+  t_ok _ _ _ _ _ c.in_ok-n.ensures
       (if_ne _ _ _ _ _ c.if-n-eq0.false
       (if_ge _ _ _ _ _ c.if-n-gt1024.false
-      (as_ok _ _ _ c.all_tags-g.result _ c.all_tags-g.ensures c.if-not-g.false
-      (table_bad c.args.s.now c.all_tags-g.new.t c.u2-n.result.val _ (omega arith) c.checked-c.result c.checked-c.ensures _ c.if-not-c.true)))),
-  no_value _ c.if-not-c.true,
+      (t_ok _ _ _ _ _ c.in_ok-z.ensures
+      (res_err _ _ _ c.from_residual-in_err-at.ensures.1 ∙ table_bad c.args.s.now c.all_tags.new.t _ _ (omega arith) _ _ c.in_err-at.ensures)))),
+  no_value _ _ _ c.from_residual-in_err-at.ensures.1,
 )
 
 pub returns : goal.returns
 unfolding pool_at
 returns c = (
-  t_ok _ _ _ c.u2-n.result c.u2-n.ensures c.if-not-n.false
+  t_ok _ _ _ _ _ c.in_ok-n.ensures
       (if_ne _ _ _ _ _ c.if-n-eq0.false
       (if_ge _ _ _ _ _ c.if-n-gt1024.false
-      (as_ok _ _ _ c.all_tags-g.result _ c.all_tags-g.ensures c.if-not-g.false
-      (table_ok c.args.s.now c.all_tags-g.new.t c.u2-n.result.val _ (omega arith) c.checked-c.result c.checked-c.ensures c.if-not-c.false)))),
-  λ z. omega arith,
+      (t_ok _ _ _ _ _ c.in_ok-z.ensures
+      (table_ok c.args.s.now c.all_tags.new.t _ _ (omega arith) _ c.in_ok-at.ensures)))),
+  omega arith,
 )

@@ -5,7 +5,7 @@ use Rattle.classfiles.proofs.pool.text_byte.Goals as goal
 
 pub returns-then-b-eq0 : goal.returns-then-b-eq0
 unfolding text_byte
-returns-then-b-eq0 c = search (calls, ltb_via) depth 8
+returns-then-b-eq0 c = search calls depth 8
 
 pub returns : goal.returns
 unfolding text_byte

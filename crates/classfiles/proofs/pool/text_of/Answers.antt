@@ -1,4 +1,4 @@
-use native.Mathlib.Omega.{arith}
+use Rattle.std.proofs.Common.{arith, ◌∙◌}
 use Rattle.classfiles.specs.Table.{text_none}
 use Rattle.classfiles.specs.Tags.{tag_there, no_utf8, text_some}
 use Rattle.classfiles.proofs.pool.text_of.Goals as goal
@@ -13,8 +13,8 @@ overflow_add-q-then-byte-eq1 c =
 
 pub returns-then-byte-eq1 : goal.returns-then-byte-eq1
 returns-then-byte-eq1 c =
-    text_some c.args.s.now _ _ c.place-q.result c.byte.result c.u2_at.result c.cut.result (c.place-q.ensures c.args.s.now c.well_formed.0.0) c.byte.ensures.0 c.if-byte-eq1.true c.u2_at.ensures.0 c.cut.ensures
+    c.cut.ensures ∙ text_some c.args.s.now _ _ c.place-q.result c.byte.result c.u2_at.result (c.place-q.ensures c.args.s.now c.well_formed.0.0) c.byte.ensures.0 c.if-byte-eq1.true c.u2_at.ensures.0
 
 pub returns : goal.returns
 returns c =
-    text_none _ _ _ (no_utf8 c.args.s.now c.place-q.result _ c.byte.result (c.place-q.ensures c.args.s.now c.well_formed.0.0) c.byte.ensures.0 c.if-byte-eq1.false)
+    text_none _ _ (no_utf8 c.args.s.now c.place-q.result _ c.byte.result (c.place-q.ensures c.args.s.now c.well_formed.0.0) c.byte.ensures.0 c.if-byte-eq1.false)

@@ -1,11 +1,7 @@
-use Rattle.classfiles.specs.Table.{text_byte}
+use Rattle.std.specs.Prelude.{◌≡◌, ◌+◌, ◌-◌}
 use Rattle.kit.specs.Scan.{first_not}
-use Prim.Native.Nat.{◌+◌, ◌-◌}
-use mathlib.Core.Path.{◌≡◌}
+use Rattle.classfiles.specs.Table.{text_byte}
 use Rattle.classfiles.proofs.pool.text_ok.Given as goal
 
 abbrev pub invariant-loop-i : goal.invariant-loop-i
 invariant-loop-i l = first_not (λ k. text_byte l.s (l.q + k)) (l.n - l.i) l.i ≡ first_not (λ k. text_byte l.s (l.q + k)) l.n 0
-
-abbrev pub decreases-loop-i : goal.decreases-loop-i
-decreases-loop-i l = l.n - l.i

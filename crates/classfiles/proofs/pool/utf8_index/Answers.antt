@@ -2,14 +2,14 @@ use Rattle.classfiles.specs.Pool.{utf8_index_at}
 use Rattle.texts.specs.Answers.{reads}
 use Rattle.classfiles.proofs.pool.utf8_index.Goals as goal
 
-pub returns-then-not-i : goal.returns-then-not-i
+pub returns-in_err-i : goal.returns-in_err-i
 unfolding utf8_index_at
-returns-then-not-i c = search reads depth 12
+returns-in_err-i c = search (reads, c.in_err-i.ensures) depth 12
 
 pub returns-then-is_utf8 : goal.returns-then-is_utf8
 unfolding utf8_index_at
-returns-then-is_utf8 c = search reads depth 12
+returns-then-is_utf8 c = search (reads, c.in_ok-i.ensures) depth 12
 
 pub returns : goal.returns
 unfolding utf8_index_at
-returns c = search reads depth 12
+returns c = search (reads, c.in_ok-i.ensures) depth 12

@@ -1,5 +1,4 @@
 use Rattle.machine.specs.Filling.{filling_now, filling_readied, filling_printed, filling_then, table_start, table_end}
-use native.Mathlib.Omega.{arith}
 use Rattle.machine.proofs.dispatch.fill_all.Goals as goal
 
 pub loop-c-init : goal.loop-c-init
@@ -7,12 +6,6 @@ loop-c-init c = table_start _ _ _ c.requires.0
 
 pub rows-requires : goal.rows-requires
 rows-requires c = (filling_readied _ _ _ _ _ c.loop-c.invariant c.requires.0, filling_printed _ _ _ _ _ c.loop-c.invariant c.requires.0.prepared.tables.most c.requires.1, c.loop-c-test.true, filling_now _ _ _ _ _ c.loop-c.invariant)
-
-pub overflow_add-c : goal.overflow_add-c
-overflow_add-c c = omega (arith, c.loop-c-test.true, c.requires.0.prepared.tables.most)
-
-pub loop-c-smaller : goal.loop-c-smaller
-loop-c-smaller c = omega (arith, c.loop-c-test.true)
 
 pub loop-c-preserved : goal.loop-c-preserved
 loop-c-preserved c = filling_then _ _ _ _ c.loop-c.t c.loop-c.invariant _ _ c.rows.ensures

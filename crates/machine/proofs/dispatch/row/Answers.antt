@@ -1,16 +1,6 @@
 use Rattle.machine.specs.Filling.{front_long, filling_from, filling_then, puts_now, row_end}
-use native.Mathlib.Omega.{arith}
-use mathlib.Core.Path.{refl}
+use Rattle.std.proofs.Common.{arith, refl}
 use Rattle.machine.proofs.dispatch.row.Goals as goal
-
-pub slice_bounds-member_count-count : goal.slice_bounds-member_count-count
-slice_bounds-member_count-count c = omega (arith, c.requires.0.long)
-
-pub slice_bounds-member_count-start : goal.slice_bounds-member_count-start
-slice_bounds-member_count-start c = omega (arith, c.requires.0.long)
-
-pub slice_bounds-member_count-end : goal.slice_bounds-member_count-end
-slice_bounds-member_count-end c = omega (arith, c.requires.0.long)
 
 pub member_count-k-requires : goal.member_count-k-requires
 member_count-k-requires c = (omega (arith, c.requires.3, c.requires.0.prepared.tables.most), front_long c.args.t.now c.requires.0.long)
@@ -20,12 +10,6 @@ loop-i-init c = filling_from _ _ _ _ _ refl c.requires.4
 
 pub put_chosen-requires : goal.put_chosen-requires
 put_chosen-requires c = puts_now _ _ c.args.t.now c.requires.0 c.loop-i.t c.args.c c.args.o c.loop-i.i _ c.requires.1 c.requires.2 c.requires.3 c.member_count-k.ensures.0 c.loop-i-test.true c.loop-i.invariant
-
-pub overflow_add-i : goal.overflow_add-i
-overflow_add-i c = omega (arith, c.loop-i-test.true, c.member_count-k.ensures.1)
-
-pub loop-i-smaller : goal.loop-i-smaller
-loop-i-smaller c = omega (arith, c.loop-i-test.true)
 
 pub loop-i-preserved : goal.loop-i-preserved
 loop-i-preserved c = filling_then _ _ _ _ c.loop-i.t c.loop-i.invariant _ _ c.put_chosen.ensures

@@ -1,6 +1,5 @@
 use Rattle.machine.specs.Filling.{filling_now, filling_readied, filling_printed, filling_then, filling_from, class_end}
-use native.Mathlib.Omega.{arith}
-use mathlib.Core.Path.{refl}
+use Rattle.std.proofs.Common.{refl}
 use Rattle.machine.proofs.dispatch.rows.Goals as goal
 
 pub loop-o-init : goal.loop-o-init
@@ -8,12 +7,6 @@ loop-o-init c = filling_from _ _ _ _ _ refl c.requires.3
 
 pub row_below-requires : goal.row_below-requires
 row_below-requires c = (filling_readied _ _ _ _ _ c.loop-o.invariant c.requires.0, filling_printed _ _ _ _ _ c.loop-o.invariant c.requires.0.prepared.tables.most c.requires.1, c.requires.2, c.loop-o-test.true, filling_now _ _ _ _ _ c.loop-o.invariant)
-
-pub overflow_add-o : goal.overflow_add-o
-overflow_add-o c = omega (arith, c.loop-o-test.true, c.requires.0.prepared.tables.most)
-
-pub loop-o-smaller : goal.loop-o-smaller
-loop-o-smaller c = omega (arith, c.loop-o-test.true)
 
 pub loop-o-preserved : goal.loop-o-preserved
 loop-o-preserved c = filling_then _ _ _ _ c.loop-o.t c.loop-o.invariant _ _ c.row_below.ensures

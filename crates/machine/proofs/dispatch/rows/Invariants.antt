@@ -1,10 +1,6 @@
 use Rattle.machine.specs.Filling.{Filling}
 use Rattle.running.specs.Dispatching.{spot_word}
-use Prim.Native.Nat.{◌-◌}
 use Rattle.machine.proofs.dispatch.rows.Given as goal
 
 abbrev pub invariant-loop-o : goal.invariant-loop-o
 invariant-loop-o l = Filling l.s l.n l.initial.t (spot_word l.c l.o 0) l.t
-
-abbrev pub decreases-loop-o : goal.decreases-loop-o
-decreases-loop-o l = l.n - l.o

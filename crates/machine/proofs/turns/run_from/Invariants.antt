@@ -1,6 +1,4 @@
-use Prim.Native.Nat.{◌≤◌}
-use mathlib.Core.Path.{◌≡◌}
-use lib.ListN.{length}
+use Rattle.std.proofs.Common.{◌≤◌, ◌≡◌, length}
 use Rattle.classfiles.specs.Limits.{max_heap}
 use Rattle.shaping.specs.Phases.{program_now}
 use Rattle.plain.specs.Run.{run}

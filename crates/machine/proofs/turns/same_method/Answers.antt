@@ -1,4 +1,4 @@
-use borrow.Author.Tests.{eqb-true}
+use Rattle.std.proofs.Common.{eqb-true}
 use Rattle.kit.specs.Bools.{not_so}
 use Rattle.machine.proofs.turns.same_method.Goals as goal
 

@@ -12,12 +12,6 @@ one_fits-requires c = search (alls, calls, arith) depth 12
 pub returns-then-not-one_fits : goal.returns-then-not-one_fits
 returns-then-not-one_fits c = search (alls, calls, arith) depth 12
 
-pub overflow_add-i : goal.overflow_add-i
-overflow_add-i c = omega arith
-
-pub loop-i-smaller : goal.loop-i-smaller
-loop-i-smaller c = omega arith
-
 pub loop-i-preserved : goal.loop-i-preserved
 loop-i-preserved c = search (alls, calls, arith) depth 12
 

@@ -1,10 +1,9 @@
 use Rattle.plain.specs.Turns.{sized_low, decided, if_not, if_so}
 use Rattle.plain.specs.WindowForms.{bin_by, steps, theres}
-use Rattle.std.proofs.Common.{rules}
 use Rattle.plain.proofs.forms.ibin.Goals as goal
 
 pub returns-then-not-two_ints : goal.returns-then-not-two_ints
-returns-then-not-two_ints c = if_not _ _ _ _ _ _ _ (bin_by _ _ _ _) (search decided) (search rules) (search rules)
+returns-then-not-two_ints c = if_not _ _ _ _ _ _ (bin_by _ _ _ _) (search decided)
 
 pub lowered-requires : goal.lowered-requires
 lowered-requires c = search theres

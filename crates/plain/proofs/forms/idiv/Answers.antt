@@ -1,10 +1,9 @@
 use Rattle.plain.specs.Turns.{sized_low, decided, if_not, if_so}
 use Rattle.plain.specs.WindowForms.{div_by, steps, theres}
-use Rattle.std.proofs.Common.{rules}
 use Rattle.plain.proofs.forms.idiv.Goals as goal
 
 pub returns-then-not-two_ints : goal.returns-then-not-two_ints
-returns-then-not-two_ints c = if_not _ _ _ _ _ _ _ (div_by _ _ _ _) (search decided) (search rules) (search rules)
+returns-then-not-two_ints c = if_not _ _ _ _ _ _ (div_by _ _ _ _) (search decided)
 
 pub returns-then-b-eq0 : goal.returns-then-b-eq0
 returns-then-b-eq0 c = if_so _ _ _ _ _ _ _ _ _ (div_by _ _ _ _) (search decided) (search steps depth 6)

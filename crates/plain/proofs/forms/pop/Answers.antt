@@ -1,10 +1,9 @@
 use Rattle.plain.specs.Turns.{sized_low, decided, if_not, if_so}
 use Rattle.plain.specs.WindowForms.{pop_by, steps}
-use Rattle.std.proofs.Common.{rules}
 use Rattle.plain.proofs.forms.pop.Goals as goal
 
 pub returns-then-c-lt1 : goal.returns-then-c-lt1
-returns-then-c-lt1 c = if_not _ _ _ _ _ _ _ (pop_by _ _ _) (search decided) (search rules) (search rules)
+returns-then-c-lt1 c = if_not _ _ _ _ _ _ (pop_by _ _ _) (search decided)
 
 pub go-requires : goal.go-requires
 go-requires c = search (sized_low)

@@ -1,10 +1,9 @@
 use Rattle.plain.specs.Turns.{sized_low, decided, if_not, if_so}
 use Rattle.plain.specs.WindowForms.{istore_by, steps, theres}
-use Rattle.std.proofs.Common.{rules}
 use Rattle.plain.proofs.forms.store_int.Goals as goal
 
 pub returns-then-not-on_top : goal.returns-then-not-on_top
-returns-then-not-on_top c = if_not _ _ _ _ _ _ _ (istore_by _ _ _ _) (search decided) (search rules) (search rules)
+returns-then-not-on_top c = if_not _ _ _ _ _ _ (istore_by _ _ _ _) (search decided)
 
 pub lowered-requires : goal.lowered-requires
 lowered-requires c = search theres

@@ -5,42 +5,6 @@ use Rattle.plain.proofs.frames.carry.Goals as goal
 pub loop-i-init : goal.loop-i-init
 loop-i-init c = (omega arith, (carry_none _ _ _, carry_none _ _ _))
 
-pub overflow_add-s : goal.overflow_add-s
-overflow_add-s c = omega arith
-
-pub offset_bounds-s-from : goal.offset_bounds-s-from
-offset_bounds-s-from c = omega (arith, c.loop-i.invariant.1.0.size, c.loop-i.invariant.1.1.size, c.well_formed, c.requires)
-
-pub bounds-s-from : goal.bounds-s-from
-bounds-s-from c = omega (arith, c.loop-i.invariant.1.0.size, c.loop-i.invariant.1.1.size, c.well_formed, c.requires)
-
-pub overflow_add-s-in-loop-i : goal.overflow_add-s-in-loop-i
-overflow_add-s-in-loop-i c = omega arith
-
-pub offset_bounds-s-to : goal.offset_bounds-s-to
-offset_bounds-s-to c = omega (arith, c.loop-i.invariant.1.0.size, c.loop-i.invariant.1.1.size, c.well_formed, c.requires)
-
-pub bounds-s-to : goal.bounds-s-to
-bounds-s-to c = omega (arith, c.loop-i.invariant.1.0.size, c.loop-i.invariant.1.1.size, c.well_formed, c.requires)
-
-pub overflow_add-g : goal.overflow_add-g
-overflow_add-g c = omega arith
-
-pub bounds-g-from : goal.bounds-g-from
-bounds-g-from c = omega (arith, c.loop-i.invariant.1.0.size, c.loop-i.invariant.1.1.size, c.well_formed, c.requires)
-
-pub overflow_add-g-in-loop-i : goal.overflow_add-g-in-loop-i
-overflow_add-g-in-loop-i c = omega arith
-
-pub bounds-g-to : goal.bounds-g-to
-bounds-g-to c = omega (arith, c.loop-i.invariant.1.0.size, c.loop-i.invariant.1.1.size, c.well_formed, c.requires)
-
-pub overflow_add-i : goal.overflow_add-i
-overflow_add-i c = omega arith
-
-pub loop-i-smaller : goal.loop-i-smaller
-loop-i-smaller c = omega arith
-
 pub loop-i-preserved : goal.loop-i-preserved
 loop-i-preserved c = (omega arith, (carry_more _ _ _ _ _ _ (omega arith) (omega arith) refl c.loop-i.invariant.1.0, carry_more _ _ _ _ _ _ (omega arith) (omega arith) refl c.loop-i.invariant.1.1))
 

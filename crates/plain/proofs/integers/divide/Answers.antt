@@ -1,8 +1,7 @@
-use Rattle.plain.specs.IntegerLaws.{integers}
 use Rattle.plain.proofs.integers.divide.Goals as goal
 
-pub returns-then-op-eq0 : goal.returns-then-op-eq0
-returns-then-op-eq0 c = search integers
+pub returns-in-Quotient : goal.returns-in-Quotient
+returns-in-Quotient c = rw c.in-Quotient.is c.idiv.ensures
 
-pub returns : goal.returns
-returns c = search integers
+pub returns-in-Remainder : goal.returns-in-Remainder
+returns-in-Remainder c = rw c.in-Remainder.is c.irem.ensures

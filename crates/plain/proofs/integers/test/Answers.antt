@@ -1,26 +1,26 @@
-use Rattle.plain.specs.IntegerLaws.{integers}
 use Rattle.plain.specs.Integers.{holds}
 use Rattle.plain.proofs.integers.test.Goals as goal
 
-pub returns-in-1 : goal.returns-in-1
+pub returns-in-Eq : goal.returns-in-Eq
 unfolding holds
-returns-in-1 c = rw c.in-1.is
+returns-in-Eq c = rw c.in-Eq.is
 
-pub returns-in-2 : goal.returns-in-2
+pub returns-in-Ne : goal.returns-in-Ne
 unfolding holds
-returns-in-2 c = rw c.in-2.is c.less.ensures
+returns-in-Ne c = rw c.in-Ne.is
 
-pub returns-in-3 : goal.returns-in-3
+pub returns-in-Lt : goal.returns-in-Lt
 unfolding holds
-returns-in-3 c = rw c.in-3.is c.not_less.ensures
+returns-in-Lt c = rw c.in-Lt.is c.less.ensures
 
-pub returns-in-4 : goal.returns-in-4
+pub returns-in-Ge : goal.returns-in-Ge
 unfolding holds
-returns-in-4 c = rw c.in-4.is c.less-in-4.ensures
+returns-in-Ge c = rw c.in-Ge.is c.not_less.ensures
 
-pub returns-in-5 : goal.returns-in-5
+pub returns-in-Gt : goal.returns-in-Gt
 unfolding holds
-returns-in-5 c = rw c.in-5.is c.not_less-in-5.ensures
+returns-in-Gt c = rw c.in-Gt.is c.less-in-Gt.ensures
 
-pub returns-in_default : goal.returns-in_default
-returns-in_default c = search integers
+pub returns-in-Le : goal.returns-in-Le
+unfolding holds
+returns-in-Le c = rw c.in-Le.is c.not_less-in-Le.ensures

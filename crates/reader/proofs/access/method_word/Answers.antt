@@ -1,5 +1,5 @@
 use Rattle.reader.specs.Access.{tag_block}
-use native.Mathlib.Omega.{arith}
+use Rattle.std.proofs.Common.{arith}
 use Rattle.reader.proofs.access.method_word.Goals as goal
 
 pub returns : goal.returns

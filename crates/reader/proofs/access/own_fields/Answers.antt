@@ -1,6 +1,5 @@
 use Rattle.reader.specs.Access.{fields_low, fields_high, fields_past}
-use Prim.Native.Nat.{◌-◌}
-use native.Mathlib.Omega.{arith}
+use Rattle.std.proofs.Common.{◌-◌, arith}
 use Rattle.reader.proofs.access.own_fields.Goals as goal
 
 pub returns-then-c-lt11 : goal.returns-then-c-lt11

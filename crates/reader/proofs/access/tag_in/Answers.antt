@@ -1,4 +1,4 @@
-use native.Mathlib.Omega.{arith}
+use Rattle.std.proofs.Common.{arith}
 use Rattle.reader.specs.Access.{tag_block}
 use Rattle.reader.proofs.access.tag_in.Goals as goal
 

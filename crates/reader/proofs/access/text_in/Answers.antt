@@ -1,5 +1,6 @@
-use Rattle.reader.specs.Access.{text-block}
+use Rattle.classfiles.specs.Blocks.{pool_of}
 use Rattle.reader.proofs.access.text_in.Goals as goal
 
 pub returns : goal.returns
-returns c = text-block c.args.s.now c.args.t.now c.args.c c.args.i c.text.result c.text.ensures
+unfolding pool_of
+returns c = rw (← c.block.ensures, ← c.tags.ensures) c.text_of.ensures

@@ -1,5 +1,5 @@
 use Rattle.reader.specs.Chains.{built_in_parent}
-use native.Mathlib.Omega.{arith}
+use Rattle.std.proofs.Common.{arith}
 use Rattle.kit.specs.Pick.{picks}
 use Rattle.reader.proofs.link.built_in_parent.Goals as goal
 

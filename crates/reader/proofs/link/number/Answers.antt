@@ -1,4 +1,4 @@
-use native.Mathlib.Omega.{arith}
+use Rattle.std.proofs.Common.{arith}
 use Rattle.reader.specs.Numbers.{built_in_name, bundle-name}
 use Rattle.reader.proofs.link.number.Goals as goal
 

@@ -1,9 +1,6 @@
 use Rattle.reader.specs.Chains.{reach_in}
-use mathlib.Core.Path.{◌≡◌}
+use Rattle.std.proofs.Common.{◌≡◌, ◌-◌}
 use Rattle.reader.proofs.link.reaches.Given as goal
 
-abbrev pub invariant-loop-left : goal.invariant-loop-left
-invariant-loop-left l = reach_in l.u l.left l.c ≡ reach_in l.u l.n l.from
-
-abbrev pub decreases-loop-left : goal.decreases-loop-left
-decreases-loop-left l = l.left
+abbrev pub invariant-loop-i : goal.invariant-loop-i
+invariant-loop-i l = reach_in l.u (l.n - l._i) l.c ≡ reach_in l.u l.n l.from

@@ -1,5 +1,5 @@
 use Rattle.reader.specs.Lookup.{above_past}
-use mathlib.Core.Path.{◌∙◌}
+use Rattle.std.proofs.Common.{◌∙◌}
 use Rattle.reader.proofs.lookup.above.Goals as goal
 
 pub returns-then-c-n : goal.returns-then-c-n

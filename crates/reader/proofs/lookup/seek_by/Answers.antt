@@ -1,30 +1,25 @@
+use Rattle.std.proofs.Common.{◌-◌, ◌+◌, ◌≡◌, arith}
 use Rattle.reader.specs.Lookup.{seek_start, seek_out, seek_hit, seek_none, seek_up}
-use native.Mathlib.Omega.{arith}
 use Rattle.reader.proofs.lookup.seek_by.Goals as goal
 
-pub loop-left-init : goal.loop-left-init
-loop-left-init c = seek_start c.args.s.now c.args.n c.args.t.now c.requires.0 _ _ c.args.from
+pub loop-i-init : goal.loop-i-init
+loop-i-init c =
+    let e : 11 + c.args.n - 0 ≡ 11 + c.args.n = omega arith in
+    rw e (seek_start c.args.s.now c.args.n c.args.t.now c.requires.0 _ _ c.args.from)
 
-pub own_by-r-requires : goal.own_by-r-requires
-own_by-r-requires c = let h = c.requires in (h.0, h.1, h.3, h.4)
+pub own_by-requires : goal.own_by-requires
+own_by-requires c = let h = c.requires in (h.0, h.1, h.3, h.4)
 
-pub returns-then-r : goal.returns-then-r
-returns-then-r c = seek_hit _ _ _ _ _ _ c.loop-left.invariant c.loop-left-test.true c.own_by-r.result c.own_by-r.ensures c.if-r.true
+pub returns-in-Some : goal.returns-in-Some
+returns-in-Some c = seek_hit _ _ _ _ _ _ c.loop-i.invariant (omega arith) _ _ c.in-Some.ensures
 
 pub returns-then-c-eq0 : goal.returns-then-c-eq0
-returns-then-c-eq0 c = seek_none _ _ _ _ _ _ c.loop-left.invariant c.loop-left-test.true c.own_by-r.result c.own_by-r.ensures c.if-r.false c.if-c-eq0.true
+returns-then-c-eq0 c = seek_none _ _ _ _ _ _ c.loop-i.invariant (omega arith) c.in_default.ensures c.if-c-eq0.true
 
-pub above-c-requires : goal.above-c-requires
-above-c-requires c = (c.requires.0, c.requires.2)
-
-pub overflow_sub-left : goal.overflow_sub-left
-overflow_sub-left c = omega arith
-
-pub loop-left-smaller : goal.loop-left-smaller
-loop-left-smaller c = omega arith
-
-pub loop-left-preserved : goal.loop-left-preserved
-loop-left-preserved c = seek_up _ _ _ _ _ _ c.loop-left.invariant c.loop-left-test.true c.own_by-r.result c.own_by-r.ensures c.if-r.false c.if-c-eq0.false _ c.above-c.ensures
+pub loop-i-preserved : goal.loop-i-preserved
+loop-i-preserved c =
+    let e : 11 + c.args.n - c.loop-i._i - 1 ≡ 11 + c.args.n - (c.loop-i._i + 1) = omega arith in
+    rw (← e) (seek_up _ _ _ _ _ _ c.loop-i.invariant (omega arith) c.in_default.ensures c.if-c-eq0.false _ c.above-c.ensures)
 
 pub returns : goal.returns
-returns c = seek_out _ _ _ _ _ _ c.loop-left.invariant c.loop-left-test.false
+returns c = seek_out _ _ _ _ _ _ c.loop-i.invariant (omega arith)

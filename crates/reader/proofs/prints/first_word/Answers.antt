@@ -1,5 +1,5 @@
 use Rattle.reader.specs.Prints.{word-method, word-field}
-use native.Mathlib.Omega.{arith}
+use Rattle.std.proofs.Common.{arith}
 use Rattle.reader.proofs.prints.first_word.Goals as goal
 
 pub returns-then-method : goal.returns-then-method

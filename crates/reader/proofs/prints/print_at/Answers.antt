@@ -1,5 +1,4 @@
-use Prim.Native.Nat.{ℕ, ◌+◌}
-use mathlib.Core.Path.{ap, ◌∙◌}
+use Rattle.std.proofs.Common.{ℕ, ◌+◌, ap, ◌∙◌}
 use Rattle.kit.specs.Words.{word}
 use Rattle.reader.proofs.prints.print_at.Goals as goal
 

@@ -1,5 +1,6 @@
-use Rattle.reader.specs.MemberRows.{name-block}
+use Rattle.reader.specs.MemberRows.{row_sig}
 use Rattle.reader.proofs.signature.member_name.Goals as goal
 
 pub returns : goal.returns
-returns c = name-block c.args.s.now c.args.t.now c.args.c c.args.method c.args.j _ c.row_start-q.ensures.0 c.text_at.result c.text_at.ensures
+unfolding row_sig
+returns c = rw (← c.block-b.ensures, ← c.row_start.ensures.0) c.text_at.ensures

@@ -1,5 +1,5 @@
 use Rattle.reader.specs.MemberRows.{count-method, count-field}
-use native.Mathlib.Omega.{arith}
+use Rattle.std.proofs.Common.{arith}
 use Rattle.reader.proofs.signature.row_count.Goals as goal
 
 pub returns-then-method : goal.returns-then-method

@@ -1,5 +1,5 @@
 use Rattle.reader.specs.MemberRows.{start_by}
-use native.Mathlib.Omega.{arith}
+use Rattle.std.proofs.Common.{arith}
 use Rattle.reader.proofs.signature.row_start.Goals as goal
 
 pub returns : goal.returns

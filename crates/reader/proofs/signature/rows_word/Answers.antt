@@ -1,5 +1,5 @@
 use Rattle.reader.specs.MemberRows.{rows_word}
-use native.Mathlib.Omega.{arith}
+use Rattle.std.proofs.Common.{arith}
 use Rattle.reader.proofs.signature.rows_word.Goals as goal
 
 pub returns-then-method : goal.returns-then-method

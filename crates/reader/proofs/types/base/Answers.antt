@@ -2,20 +2,14 @@ use Rattle.reader.specs.CodeLaws.{named-type}
 use Rattle.classfiles.specs.Shapes.{semicolon_past}
 use Rattle.texts.specs.Answers.{reads}
 use Rattle.kit.specs.Pick.{picks}
-use native.Mathlib.Omega.{arith}
+use Rattle.std.proofs.Common.{arith}
 use Rattle.classfiles.specs.Descriptors.{base_at}
 use Rattle.reader.specs.TypeCodes.{base_of}
 use Rattle.reader.proofs.types.base.Goals as goal
 
-pub overflow_add-result : goal.overflow_add-result
-overflow_add-result c = omega (arith, c.is_at.ensures.1 c.if-is_at.true)
-
 pub returns-then-is_at : goal.returns-then-is_at
 unfolding base_at base_of
 returns-then-is_at c = (search (reads, picks) depth 12, omega arith)
-
-pub overflow_add-a : goal.overflow_add-a
-overflow_add-a c = omega (arith, c.is_at-2.ensures.1 c.if-is_at-2.true)
 
 pub named-requires : goal.named-requires
 named-requires c = (c.requires.0, c.requires.1, semicolon_past _ _ _ c.semicolon-z.ensures)
@@ -26,4 +20,4 @@ returns-then-is_at-2 c = (search (named-type, reads, picks) depth 12, c.named.en
 
 pub returns : goal.returns
 unfolding base_at base_of
-returns c = (search (reads, picks) depth 12, omega arith)
+returns c = (search (reads, picks) depth 12, tt)

@@ -1,12 +1,12 @@
+use Rattle.std.proofs.Common.{arith}
 use Rattle.reader.specs.CodeLaws.{field_bad, field_short, field_ok}
-use native.Mathlib.Omega.{arith}
 use Rattle.reader.proofs.types.field_type.Goals as goal
 
-pub returns-then-not-d : goal.returns-then-not-d
-returns-then-not-d c = (search field_bad, omega arith)
+pub returns-in_default : goal.returns-in_default
+returns-in_default c = (field_bad _ _ _ _ c.in_default.ensures.0, omega arith)
 
 pub returns-then-d-x : goal.returns-then-d-x
-returns-then-d-x c = (search field_ok, c.field-d.ensures.1)
+returns-then-d-x c = (field_ok _ _ _ _ c.in-Ok.ensures.0 c.if-d-x.true, c.in-Ok.ensures.1)
 
 pub returns : goal.returns
-returns c = (search field_short, omega arith)
+returns c = (field_short _ _ _ _ c.in-Ok.ensures.0 c.if-d-x.false, omega arith)

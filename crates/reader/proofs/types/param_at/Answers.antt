@@ -1,5 +1,5 @@
 use Rattle.reader.specs.CodeLaws.{params-length, code_is}
-use native.Mathlib.Omega.{arith}
+use Rattle.std.proofs.Common.{arith}
 use Rattle.reader.proofs.types.param_at.Goals as goal
 
 pub overflow_add-k-3 : goal.overflow_add-k-3

@@ -1,12 +1,9 @@
-use Rattle.reader.specs.CodeLaws.{result_none, result_some}
-use native.Mathlib.Omega.{arith}
+use Rattle.std.proofs.Common.{arith}
+use Rattle.reader.specs.CodeLaws.{result_none, result_some, below_none}
 use Rattle.reader.proofs.types.result.Goals as goal
-
-pub overflow_add-result : goal.overflow_add-result
-overflow_add-result c = omega (arith, c.is_at.ensures.1 c.if-is_at.true)
 
 pub returns-then-is_at : goal.returns-then-is_at
 returns-then-is_at c = (search result_none, omega arith)
 
 pub returns : goal.returns
-returns c = (search result_some, omega (arith, c.field.ensures.1))
+returns c = (result_some _ _ _ _ c.is_at.ensures.0 c.if-is_at.false c.field.result c.field.ensures.0 c.field.ensures.1, below_none _ c.field.ensures.1)

@@ -1,6 +1,5 @@
 use Rattle.reader.specs.CodeLaws.{settle_none, settle_some}
-use native.Mathlib.Omega.{arith}
-use lib.ListN.{length-set}
+use Rattle.std.proofs.Common.{arith, length-set}
 use Rattle.reader.proofs.types.settle.Goals as goal
 
 pub returns-then-v-eq256 : goal.returns-then-v-eq256

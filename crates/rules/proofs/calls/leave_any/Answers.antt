@@ -1,5 +1,5 @@
 use Rattle.rules.specs.SlotLaws.{length-stack}
-use mathlib.Core.Path.{sym}
+use Rattle.std.proofs.Common.{sym}
 use Rattle.rules.specs.KnownLaws.{after_call, after_virtual, after-static}
 use Rattle.rules.proofs.calls.leave_any.Goals as goal
 

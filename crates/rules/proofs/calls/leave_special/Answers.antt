@@ -1,8 +1,7 @@
 use Rattle.rules.specs.KnownLaws.{special_made, special_own, outside_at, kept_lowered}
 use Rattle.rules.specs.FormLaws.{kept_moved}
 use Rattle.rules.specs.SlotLaws.{length-stack}
-use mathlib.Core.Path.{sym, refl}
-use native.Mathlib.Omega.{arith}
+use Rattle.std.proofs.Common.{sym, refl, arith}
 use Rattle.rules.proofs.calls.leave_special.Goals as goal
 
 pub returns-then-key-eq-UNINIT : goal.returns-then-key-eq-UNINIT

@@ -1,6 +1,5 @@
 use Rattle.rules.specs.CodeLaws.{code_of_class, code_of_array}
-use mathlib.Core.Path.{refl}
-use borrow.Author.Rules.{rules}
+use Rattle.std.proofs.Common.{refl, rules}
 use Rattle.rules.proofs.codes.array_of.Goals as goal
 
 pub returns-then-k-eq0 : goal.returns-then-k-eq0

@@ -1,6 +1,5 @@
 use Rattle.rules.specs.CodeLaws.{code-int, code_other}
-use mathlib.Core.Path.{refl}
-use borrow.Author.Rules.{rules}
+use Rattle.std.proofs.Common.{refl, rules}
 use Rattle.rules.proofs.codes.described.Goals as goal
 
 pub returns-then-k-eq248 : goal.returns-then-k-eq248

@@ -1,5 +1,5 @@
 use Rattle.rules.specs.CodeLaws.{code-class, code_array}
-use mathlib.Core.Path.{refl}
+use Rattle.std.proofs.Common.{refl}
 use Rattle.rules.proofs.codes.reference.Goals as goal
 
 pub returns-then-k-eq0 : goal.returns-then-k-eq0

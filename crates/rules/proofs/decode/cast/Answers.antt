@@ -1,5 +1,5 @@
 use Rattle.rules.specs.Instruction.{checkcast}
-use mathlib.Core.Path.{refl, ap}
+use Rattle.std.proofs.Common.{refl, ap}
 use Rattle.rules.specs.DecodeLaws.{type_yes, type_no}
 use Rattle.rules.proofs.decode.cast.Goals as goal
 

@@ -1,34 +1,10 @@
-use mathlib.Core.Path.{refl, sym, ◌∙◌}
+use Rattle.std.proofs.Common.{refl, sym, ◌∙◌}
 use Rattle.rules.specs.Instruction.{invokevirtual, invokespecial, invokestatic}
 use Rattle.rules.specs.Resolve.{is_static_call, is_virtual_call, is_init_call}
 use Rattle.rules.specs.Opcodes.{rows, row_in, row_of}
 use Rattle.rules.specs.Decoding.{made}
 use Rattle.rules.specs.DecodeLaws.{decoded_bare, decoded_call}
 use Rattle.rules.proofs.decode.fetch.Goals as goal
-
-pub byte-op-requires : goal.byte-op-requires
-byte-op-requires c = tt
-
-pub named_at-requires : goal.named_at-requires
-named_at-requires c = c.requires
-
-pub virtual_call-requires : goal.virtual_call-requires
-virtual_call-requires c = tt
-
-pub named_at-requires-in-183 : goal.named_at-requires-in-183
-named_at-requires-in-183 c = c.requires
-
-pub special_call-requires : goal.special_call-requires
-special_call-requires c = tt
-
-pub named_at-requires-in-184 : goal.named_at-requires-in-184
-named_at-requires-in-184 c = c.requires
-
-pub static_call-requires : goal.static_call-requires
-static_call-requires c = tt
-
-pub instruction-requires : goal.instruction-requires
-instruction-requires c = tt
 
 pub returns-in-172 : goal.returns-in-172
 unfolding made row_of row_in rows
@@ -53,6 +29,3 @@ returns-in-183 c = decoded_call _ _ _ _ _ 0xb7 _ (sym c.byte-op.ensures.0 ∙ c.
 pub returns-in-184 : goal.returns-in-184
 unfolding made row_of row_in rows
 returns-in-184 c = decoded_call _ _ _ _ _ 0xb8 _ (sym c.byte-op.ensures.0 ∙ c.in-184.is) is_static_call invokestatic _ c.named_at-in-184.ensures (λ P pool a b. refl) c.static_call.ensures
-
-pub returns-in_default : goal.returns-in_default
-returns-in_default c = c.instruction.ensures

@@ -1,5 +1,5 @@
 use Rattle.rules.specs.Instruction.{getfield}
-use mathlib.Core.Path.{refl}
+use Rattle.std.proofs.Common.{refl}
 use Rattle.rules.specs.DecodeLaws.{field_yes, field_no}
 use Rattle.rules.proofs.decode.get_field.Goals as goal
 

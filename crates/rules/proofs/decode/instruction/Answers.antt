@@ -1,4 +1,4 @@
-use lib.ListN.{get_or-eq_default}
+use Rattle.std.proofs.Math.ListN.{get_or-eq_default}
 use Rattle.rules.specs.Opcodes.{rows, row_in, row_of}
 use Rattle.rules.specs.Decoding.{made}
 use Rattle.rules.proofs.decode.instruction.Goals as goal
@@ -6,7 +6,3 @@ use Rattle.rules.proofs.decode.instruction.Goals as goal
 pub returns-then-code-o : goal.returns-then-code-o
 unfolding made row_of row_in rows
 returns-then-code-o c = record { is = λ P f. rw (get_or-eq_default c.args.code.now 0 c.if-code-o.true) }
-
-pub returns : goal.returns
-unfolding made row_of row_in rows
-returns c = record { is = λ P f. rw (← c.byte-op.ensures.0, ← c.byte-first.ensures.0, ← c.byte-second.ensures.0) (c.made.ensures.is P f) }

@@ -1,7 +1,7 @@
 use Rattle.rules.specs.TypeWords.{nest, base_of}
 use Rattle.rules.specs.Opcodes.{rows, row_in, row_of}
 use Rattle.rules.specs.Decoding.{made}
-use borrow.Author.Tests.{ne_eqb}
+use Rattle.std.proofs.Common.{ne_eqb}
 use Rattle.rules.proofs.decode.int_array.Goals as goal
 
 pub returns-then-x-eq10 : goal.returns-then-x-eq10

@@ -1,8 +1,6 @@
-use mathlib.Core.Path.{subst}
+use Rattle.std.proofs.Common.{subst, ◌∙◌, sym, ap, ℕ, ◌+◌, ◌/◌}
 use Rattle.rules.specs.ResolvedWords.{resolved_in, Flagged}
-use mathlib.Core.Path.{◌∙◌, sym, ap}
 use Rattle.texts.specs.Reading.{u4_at}
-use Prim.Native.Nat.{ℕ, ◌+◌, ◌/◌}
 use Rattle.rules.specs.Instruction.{iconst}
 use Rattle.rules.specs.Resolve.{as_number}
 use Rattle.rules.specs.ResolvedWords.{resolved_of}
@@ -13,10 +11,6 @@ use Rattle.rules.proofs.decode.made.Goals as goal
 pub returns-then-x-eq18 : goal.returns-then-x-eq18
 unfolding made row_of row_in rows
 returns-then-x-eq18 c = record { is = λ P f. rw c.if-x-eq18.true (c.number_of.ensures ∙ ap (λ (w : ℕ). as_number iconst (resolved_of c.args.s.now w)) c.named_word.ensures) }
-
-pub returns-then-x-lt180 : goal.returns-then-x-lt180
-unfolding made row_of row_in rows
-returns-then-x-lt180 c = record { is = λ P f. c.unnamed.ensures.is P _ }
 
 pub returns : goal.returns
 unfolding made row_of row_in rows

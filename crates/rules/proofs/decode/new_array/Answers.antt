@@ -1,4 +1,4 @@
-use mathlib.Core.Path.{refl}
+use Rattle.std.proofs.Common.{refl}
 use Rattle.rules.specs.Resolve.{array_of}
 use Rattle.rules.specs.DecodeLaws.{type_yes, type_no, array_some, array_none}
 use Rattle.rules.proofs.decode.new_array.Goals as goal

@@ -1,4 +1,4 @@
-use mathlib.Core.Path.{refl}
+use Rattle.std.proofs.Common.{refl}
 use Rattle.rules.specs.Resolve.{new_of}
 use Rattle.rules.specs.DecodeLaws.{type_yes, type_no, new-class, new_none}
 use Rattle.rules.proofs.decode.new_object.Goals as goal

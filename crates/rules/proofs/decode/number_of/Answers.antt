@@ -1,5 +1,4 @@
-use mathlib.Core.Path.{◌∙◌}
-use mathlib.Core.Path.{ap}
+use Rattle.std.proofs.Common.{◌∙◌, ap}
 use Rattle.rules.specs.Instruction.{iconst}
 use Rattle.rules.specs.DecodeLaws.{number_yes, number_no}
 use Rattle.rules.proofs.decode.number_of.Goals as goal

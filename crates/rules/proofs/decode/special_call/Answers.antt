@@ -1,6 +1,6 @@
 use Rattle.rules.specs.Resolve.{is_init_call}
 use Rattle.rules.specs.Instruction.{invokespecial}
-use mathlib.Core.Path.{refl, ap}
+use Rattle.std.proofs.Common.{refl, ap}
 use Rattle.rules.specs.DecodeLaws.{call_none, special_yes, special_no}
 use Rattle.rules.proofs.decode.special_call.Goals as goal
 

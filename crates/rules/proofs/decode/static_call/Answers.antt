@@ -1,6 +1,6 @@
 use Rattle.rules.specs.Resolve.{is_static_call}
 use Rattle.rules.specs.Instruction.{invokestatic}
-use mathlib.Core.Path.{refl, ap}
+use Rattle.std.proofs.Common.{refl, ap}
 use Rattle.rules.specs.DecodeLaws.{call_none, static-init, static_yes, static_no}
 use Rattle.rules.proofs.decode.static_call.Goals as goal
 

@@ -1,6 +1,6 @@
 use Rattle.rules.specs.Resolve.{is_virtual_call}
 use Rattle.rules.specs.Instruction.{invokevirtual}
-use mathlib.Core.Path.{refl, ap}
+use Rattle.std.proofs.Common.{refl, ap}
 use Rattle.rules.specs.DecodeLaws.{call_none, virtual_init, virtual_static, virtual_yes}
 use Rattle.rules.proofs.decode.virtual_call.Goals as goal
 

@@ -1,7 +1,6 @@
 use Rattle.rules.specs.FrameRows.{frames_at, frames_of}
 use Rattle.rules.specs.Walk.{frame_at}
-use Prim.Native.Nat.{◌+◌, ◌-◌, ◌*◌, ◌≤◌}
-use mathlib.Core.Path.{◌≡◌}
+use Rattle.std.proofs.Common.{◌+◌, ◌-◌, ◌*◌, ◌≤◌, ◌≡◌}
 use Rattle.rules.proofs.frames.find.Given as goal
 
 abbrev pub invariant-loop-low : goal.invariant-loop-low

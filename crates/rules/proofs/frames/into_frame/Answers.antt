@@ -1,8 +1,5 @@
-use Rattle.rules.specs.FrameLaws.{intos}
+use Rattle.rules.specs.FrameLaws.{into_none}
 use Rattle.rules.proofs.frames.into_frame.Goals as goal
 
-pub returns-then-s : goal.returns-then-s
-returns-then-s c = search intos
-
-pub returns : goal.returns
-returns c = search intos
+pub returns-in-None : goal.returns-in-None
+returns-in-None c = into_none _ _ _ c.in-None.ensures.is

@@ -1,5 +1,5 @@
 use Rattle.rules.specs.Loads.{loaded_held, loaded_outside}
-use mathlib.Core.Path.{refl}
+use Rattle.std.proofs.Common.{refl}
 use Rattle.rules.proofs.frames.load.Goals as goal
 
 pub returns : goal.returns

@@ -1,29 +1,12 @@
-use Rattle.rules.specs.Handlers.{hands}
-use native.Mathlib.Omega.{arith}
-use borrow.Author.Rules.{rules}
-use mathlib.Core.Path.{refl}
+use Rattle.std.proofs.Common.{◌+◌, ◌-◌, ◌*◌, arith}
+use Rattle.rules.specs.Handlers.{hand_more, hand_no, hand_end}
 use Rattle.rules.proofs.handlers.all_handlers.Goals as goal
 
-pub loop-left-init : goal.loop-left-init
-loop-left-init c = (refl, omega arith, refl)
+pub returns-in_err-one_handler : goal.returns-in_err-one_handler
+returns-in_err-one_handler c = hand_no _ _ _ _ _ _ _ (c.args.x.table + 8 * c.loop-i.i) (c.args.x.entries - c.loop-i.i) _ (c.args.x.table + 8 * (c.loop-i.i + 1)) (c.args.x.entries - (c.loop-i.i + 1)) (omega arith) (omega arith) _ _ _ c.from_residual.ensures.1 c.loop-i.invariant.1 c.in_err-one_handler.ensures
 
-pub one_handler-r-requires : goal.one_handler-r-requires
-one_handler-r-requires c = search (rules, arith)
-
-pub returns-then-r-ne0 : goal.returns-then-r-ne0
-returns-then-r-ne0 c = search hands
-
-pub overflow_add-q : goal.overflow_add-q
-overflow_add-q c = search (rules, arith)
-
-pub overflow_sub-left : goal.overflow_sub-left
-overflow_sub-left c = search (rules, arith)
-
-pub loop-left-smaller : goal.loop-left-smaller
-loop-left-smaller c = search (rules, arith)
-
-pub loop-left-preserved : goal.loop-left-preserved
-loop-left-preserved c = (omega arith, omega arith, search hands)
+pub loop-i-preserved : goal.loop-i-preserved
+loop-i-preserved c = (omega arith, hand_more _ _ _ _ _ _ _ _ _ _ _ _ (omega arith) (omega arith) c.loop-i.invariant.1 c.in_ok-one_handler.ensures)
 
 pub returns : goal.returns
-returns c = search hands
+returns c = hand_end _ _ _ _ _ _ _ _ _ _ c.loop-i.invariant.1 (omega arith)

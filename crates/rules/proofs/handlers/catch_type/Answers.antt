@@ -1,5 +1,5 @@
 use Rattle.rules.specs.Handlers.{catch-any, catch-class, catch_none}
-use mathlib.Core.Path.{refl}
+use Rattle.std.proofs.Common.{refl}
 use Rattle.rules.proofs.handlers.catch_type.Goals as goal
 
 pub returns-then-i-eq0 : goal.returns-then-i-eq0

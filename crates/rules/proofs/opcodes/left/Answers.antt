@@ -1,6 +1,6 @@
 use Rattle.rules.proofs.OpcodeTable.{rule}
 use Rattle.rules.specs.OpcodeTable.{table, no_byte}
-use borrow.Author.Rules.{rules}
+use Rattle.std.proofs.Common.{rules}
 use Rattle.rules.proofs.opcodes.left.Goals as goal
 
 pub returns-then-op-lt256 : goal.returns-then-op-lt256

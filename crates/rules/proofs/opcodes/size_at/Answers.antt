@@ -1,6 +1,4 @@
-use mathlib.Core.Path.{◌≡◌}
-use Prim.Native.Nat.{ℕ}
-use native.Mathlib.Omega.{arith}
+use Rattle.std.proofs.Common.{◌≡◌, ℕ, arith}
 use Rattle.rules.specs.OpcodeTable.{length_short}
 use Rattle.rules.specs.Opcodes.{size_at, length_of, row_of}
 use Rattle.rules.proofs.opcodes.size_at.Goals as goal

@@ -1,6 +1,5 @@
 use Rattle.rules.specs.SlotLaws.{set_past, outside_none, set-held, set_outside}
-use native.Mathlib.Omega.{arith}
-use borrow.Author.Rules.{rules}
+use Rattle.std.proofs.Common.{arith, rules}
 use Rattle.rules.proofs.slots.set_local.Goals as goal
 
 pub returns-then-h-j : goal.returns-then-h-j

@@ -1,5 +1,5 @@
 use Rattle.rules.specs.GroupLaws.{form_to}
-use mathlib.Core.Path.{refl}
+use Rattle.std.proofs.Common.{refl}
 use Rattle.rules.proofs.steps.ask_branch.Goals as goal
 
 pub returns : goal.returns

@@ -1,9 +1,7 @@
-use mathlib.Core.List.{[]}
+use Rattle.std.proofs.Common.{[], ap, refl, ◌∙◌, length}
 use Rattle.rules.specs.Forms.{branch_takes}
 use Rattle.rules.specs.GroupLaws.{turned_to}
 use Rattle.rules.specs.Slots.{held}
-use mathlib.Core.Path.{ap, refl, ◌∙◌}
-use lib.ListN.{length}
 use Rattle.rules.proofs.steps.leave_branch.Goals as goal
 
 pub returns : goal.returns

@@ -1,6 +1,6 @@
 use Rattle.rules.specs.GroupLaws.{afters, kept_same, local-after}
 use Rattle.rules.specs.SlotLaws.{outside_none}
-use mathlib.Core.Path.{refl}
+use Rattle.std.proofs.Common.{refl}
 use Rattle.rules.proofs.steps.leave_local.Goals as goal
 
 pub returns-in-Iload : goal.returns-in-Iload

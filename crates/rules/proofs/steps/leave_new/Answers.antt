@@ -1,7 +1,7 @@
 use Rattle.rules.specs.GroupLaws.{new-held}
 use Rattle.rules.specs.FormLaws.{kept_moved}
 use Rattle.rules.specs.SlotLaws.{outside_two}
-use native.Mathlib.Omega.{arith}
+use Rattle.std.proofs.Common.{arith}
 use Rattle.rules.proofs.steps.leave_new.Goals as goal
 
 pub returns : goal.returns

@@ -1,8 +1,7 @@
 use Rattle.rules.specs.Forms.{plain_takes}
 use Rattle.rules.specs.GroupLaws.{turned_to}
 use Rattle.rules.specs.Slots.{held}
-use mathlib.Core.Path.{ap, ◌∙◌}
-use lib.ListN.{length}
+use Rattle.std.proofs.Common.{ap, ◌∙◌, length}
 use Rattle.rules.proofs.steps.leave_plain.Goals as goal
 
 pub returns : goal.returns

@@ -1,6 +1,6 @@
 use Rattle.rules.specs.GroupLaws.{afters}
 use Rattle.rules.specs.FormLaws.{kept_moved}
-use native.Mathlib.Omega.{arith}
+use Rattle.std.proofs.Common.{arith}
 use Rattle.rules.proofs.steps.leave_stack.Goals as goal
 
 pub returns-in-Dup : goal.returns-in-Dup

@@ -1,5 +1,8 @@
-use Rattle.rules.specs.GroupLaws.{two_claims}
+use Rattle.kit.specs.Claims.{claim_on, claim_off}
 use Rattle.rules.proofs.steps.may_leave.Goals as goal
 
+pub returns-in_err-must : goal.returns-in_err-must
+returns-in_err-must c = claim_off _ _ _ c.from_residual.ensures.1 _ _ _ c.in_err-must.ensures
+
 pub returns : goal.returns
-returns c = two_claims _ _ _ _ _ _ _ c.first.ensures c.must.ensures c.must-2.ensures
+returns c = claim_on _ _ _ _ c.in_ok-must.ensures c.must-2.ensures

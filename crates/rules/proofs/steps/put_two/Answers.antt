@@ -1,5 +1,5 @@
 use Rattle.rules.specs.GroupLaws.{moved_two, state_two, outside_on}
-use native.Mathlib.Omega.{arith}
+use Rattle.std.proofs.Common.{arith}
 use Rattle.rules.proofs.steps.put_two.Goals as goal
 
 pub returns : goal.returns

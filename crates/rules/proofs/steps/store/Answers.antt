@@ -1,6 +1,6 @@
 use Rattle.rules.specs.GroupLaws.{store-held}
 use Rattle.rules.specs.FormLaws.{kept_moved}
-use native.Mathlib.Omega.{arith}
+use Rattle.std.proofs.Common.{arith}
 use Rattle.rules.proofs.steps.store.Goals as goal
 
 pub returns : goal.returns

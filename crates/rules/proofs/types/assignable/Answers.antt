@@ -1,7 +1,7 @@
 use Rattle.rules.specs.TypeLaws.{at_kind, kinds, fits-uninit}
 use Rattle.rules.specs.Types.{fits}
 use Rattle.kit.specs.Pick.{picks}
-use native.Mathlib.Omega.{arith}
+use Rattle.std.proofs.Common.{arith}
 use Rattle.rules.proofs.types.assignable.Goals as goal
 
 pub returns-then-k-eq-INT : goal.returns-then-k-eq-INT

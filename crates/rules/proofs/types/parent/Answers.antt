@@ -1,7 +1,5 @@
 use Rattle.rules.specs.Ancestry.{parent_in, parent_out, parent_past}
-use native.Mathlib.Omega.{arith}
-use mathlib.Core.Path.{◌∙◌}
-use borrow.Author.Rules.{rules}
+use Rattle.std.proofs.Common.{arith, ◌∙◌, rules}
 use Rattle.rules.proofs.types.parent.Goals as goal
 
 pub returns-then-kin-i : goal.returns-then-kin-i

@@ -1,10 +1,9 @@
-use native.Mathlib.Omega.{arith}
-use mathlib.Core.Path.{refl}
+use Rattle.std.proofs.Common.{arith}
 use Rattle.running.specs.Entering.{entered_full, entered_on}
 use Rattle.running.proofs.entering.enter.Goals as goal
 
 pub returns-then-d-ge63 : goal.returns-then-d-ge63
-returns-then-d-ge63 c = entered_full _ _ _ _ _ _ _ _ c.if-d-ge63.true refl
+returns-then-d-ge63 c = entered_full _ _ _ _ _ _ _ c.if-d-ge63.true
 
 pub save-requires : goal.save-requires
 save-requires c = (omega arith, c.requires.0.records)

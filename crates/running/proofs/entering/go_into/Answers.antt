@@ -1,9 +1,6 @@
-use native.Mathlib.Omega.{arith}
+use Rattle.std.proofs.Common.{arith}
 use Rattle.running.specs.Entering.{way_small, way_read, way_asked, way_left, into_by}
 use Rattle.running.proofs.entering.go_into.Goals as goal
-
-pub slice_bounds-locals_of-end : goal.slice_bounds-locals_of-end
-slice_bounds-locals_of-end c = omega (arith, c.requires.standing.ready.long)
 
 pub overflow_sub-y : goal.overflow_sub-y
 overflow_sub-y c = (way_small _ _ _ _ _ _ _ _ c.requires).0
@@ -13,9 +10,6 @@ locals_of-m-requires c = ((way_small _ _ _ _ _ _ _ _ c.requires).1, (way_small _
 
 pub overflow_cast-from : goal.overflow_cast-from
 overflow_cast-from c = omega (arith, way_left _ _ _ _ _ _ _ _ c.requires, c.locals_of-m.ensures.1)
-
-pub overflow_cast-into : goal.overflow_cast-into
-overflow_cast-into c = omega (arith, way_left _ _ _ _ _ _ _ _ c.requires, c.locals_of-m.ensures.1)
 
 pub enter-requires : goal.enter-requires
 enter-requires c = way_asked _ _ _ _ _ _ _ _ c.requires _ (way_read _ _ _ _ _ _ _ _ c.requires _ c.locals_of-m.ensures.0)

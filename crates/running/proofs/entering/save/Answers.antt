@@ -1,4 +1,4 @@
-use native.Mathlib.Omega.{arith}
+use Rattle.std.proofs.Common.{arith}
 use Rattle.running.specs.Entering.{besides_six}
 use Rattle.plain.specs.Calls.{record_put}
 use Rattle.running.proofs.entering.save.Goals as goal

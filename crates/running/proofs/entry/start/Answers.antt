@@ -1,22 +1,9 @@
 use Rattle.running.specs.Entry.{entry_now, few_arguments, entry-locals, starts}
-use mathlib.Core.Path.{◌∙◌}
-use native.Mathlib.Omega.{arith}
+use Rattle.std.proofs.Common.{◌∙◌, arith}
 use Rattle.running.proofs.entry.start.Goals as goal
-
-pub slice_bounds-method_word-count : goal.slice_bounds-method_word-count
-slice_bounds-method_word-count c = omega (arith, c.requires.0.long)
-
-pub slice_bounds-method_word-start : goal.slice_bounds-method_word-start
-slice_bounds-method_word-start c = omega (arith, c.requires.0.long)
-
-pub slice_bounds-method_word-end : goal.slice_bounds-method_word-end
-slice_bounds-method_word-end c = omega (arith, c.requires.0.long)
 
 pub method_word-q-requires : goal.method_word-q-requires
 method_word-q-requires c = (omega (arith, (entry_now c.args.b.now c.args.n c.args.t.now c.requires.0 c.requires.1 c.args.i c.args.j c.requires.4).class, c.requires.0.prepared.tables.most), omega (arith, (entry_now c.args.b.now c.args.n c.args.t.now c.requires.0 c.requires.1 c.args.i c.args.j c.requires.4).class, c.requires.0.prepared.tables.most, (entry_now c.args.b.now c.args.n c.args.t.now c.requires.0 c.requires.1 c.args.i c.args.j c.requires.4).row, c.requires.0.prepared.tables.limited.methods _ (entry_now c.args.b.now c.args.n c.args.t.now c.requires.0 c.requires.1 c.args.i c.args.j c.requires.4).class), omega arith)
-
-pub overflow_add-q : goal.overflow_add-q
-overflow_add-q c = omega (arith, c.method_word-q.ensures.1)
 
 pub lay-requires : goal.lay-requires
 lay-requires c = (omega (arith, few_arguments c.args.b.now c.args.n c.args.t.now c.requires.0 c.requires.1 c.args.i c.args.j c.requires.4 c.args.args.now c.requires.5, c.requires.2), omega (arith, few_arguments c.args.b.now c.args.n c.args.t.now c.requires.0 c.requires.1 c.args.i c.args.j c.requires.4 c.args.args.now c.requires.5, c.requires.3))
@@ -35,12 +22,6 @@ overflow_cast-result-2 c = omega (arith, (entry_now c.args.b.now c.args.n c.args
 
 pub overflow_cast-result-3 : goal.overflow_cast-result-3
 overflow_cast-result-3 c = omega (arith, (entry_now c.args.b.now c.args.n c.args.t.now c.requires.0 c.requires.1 c.args.i c.args.j c.requires.4).class, c.requires.0.prepared.tables.most, (entry_now c.args.b.now c.args.n c.args.t.now c.requires.0 c.requires.1 c.args.i c.args.j c.requires.4).row, c.requires.0.prepared.tables.limited.methods _ (entry_now c.args.b.now c.args.n c.args.t.now c.requires.0 c.requires.1 c.args.i c.args.j c.requires.4).class, c.u2_at-locals.ensures.1)
-
-pub shape_of-s : goal.shape_of-s
-shape_of-s c = c.lay.auto.s
-
-pub shape_of-g : goal.shape_of-g
-shape_of-g c = c.empty_from.auto.g ∙ c.lay.auto.g
 
 pub returns : goal.returns
 returns c = starts c.args.b.now c.args.n c.args.t.now c.requires.0 c.requires.1 c.args.i c.args.j c.requires.4 c.args.args.now _ _ _ _ (c.lay.auto.s ∙ c.requires.2) (c.empty_from.auto.g ∙ c.lay.auto.g ∙ c.requires.3) c.requires.5 c.lay.ensures c.empty_from.ensures (entry-locals c.args.b.now c.args.n c.args.t.now c.requires.0 c.requires.1 c.args.i c.args.j c.requires.4 _ _ c.method_word-q.ensures.0 c.u2_at-locals.ensures.0)

@@ -1,5 +1,5 @@
 use Rattle.plain.specs.Landing.{at_handler}
-use borrow.Author.Rules.{rules}
+use Rattle.std.proofs.Common.{rules}
 use Rattle.running.proofs.landing.at_handler.Goals as goal
 
 pub returns : goal.returns

@@ -1,6 +1,6 @@
 use Rattle.kit.specs.Scan.{alls}
 use Rattle.kit.specs.Pick.{calls}
-use native.Mathlib.Omega.{arith}
+use Rattle.std.proofs.Common.{arith}
 use Rattle.running.proofs.popping.fit.Goals as goal
 
 pub loop-i-init : goal.loop-i-init
@@ -11,12 +11,6 @@ one_fits-requires c = (omega arith, c.requires.1, c.requires.2, c.requires.3, om
 
 pub returns-then-not-one_fits : goal.returns-then-not-one_fits
 returns-then-not-one_fits c = search (alls, calls, arith) depth 12
-
-pub overflow_add-i : goal.overflow_add-i
-overflow_add-i c = omega arith
-
-pub loop-i-smaller : goal.loop-i-smaller
-loop-i-smaller c = omega arith
 
 pub loop-i-preserved : goal.loop-i-preserved
 loop-i-preserved c = search (alls, calls, arith) depth 12

@@ -1,4 +1,4 @@
-use mathlib.Core.Path.{◌∙◌}
+use Rattle.std.proofs.Common.{◌∙◌}
 use Rattle.running.specs.Popping.{param_fits}
 use Rattle.running.proofs.popping.one_fits.Goals as goal
 

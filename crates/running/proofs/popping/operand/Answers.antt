@@ -1,4 +1,4 @@
-use mathlib.Core.Path.{refl}
+use Rattle.std.proofs.Common.{refl}
 use Rattle.running.specs.Popping.{operand_is}
 use Rattle.running.proofs.popping.operand.Goals as goal
 

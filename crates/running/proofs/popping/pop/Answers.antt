@@ -1,12 +1,15 @@
-use native.Mathlib.Omega.{arith}
-use Rattle.running.specs.Popping.{pops_few, pops_all}
+use Rattle.std.proofs.Common.{ap, not, arith}
+use Rattle.running.specs.Popping.{pops_few, pops_unfit, pops_fit}
 use Rattle.running.proofs.popping.pop.Goals as goal
 
 pub returns-then-have-n : goal.returns-then-have-n
 returns-then-have-n c = pops_few _ _ _ _ _ _ _ _ c.param_count-n.ensures.0 c.if-have-n.true
 
-pub fit-ok-requires : goal.fit-ok-requires
-fit-ok-requires c = (omega arith, c.requires.1, c.requires.2, c.requires.3, c.param_count-n.ensures.0)
+pub fit-requires : goal.fit-requires
+fit-requires c = (omega arith, c.requires.1, c.requires.2, c.requires.3, c.param_count-n.ensures.0)
+
+pub returns-then-not-fit : goal.returns-then-not-fit
+returns-then-not-fit c = pops_unfit _ _ _ _ _ _ _ _ c.param_count-n.ensures.0 _ (omega arith) c.fit.ensures (ap not c.if-not-fit.true)
 
 pub returns : goal.returns
-returns c = pops_all _ _ _ _ _ _ _ _ c.param_count-n.ensures.0 _ (omega arith) c.fit-ok.ensures
+returns c = pops_fit _ _ _ _ _ _ _ _ c.param_count-n.ensures.0 _ (omega arith) c.fit.ensures (ap not c.if-not-fit.false)

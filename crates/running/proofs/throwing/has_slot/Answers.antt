@@ -1,13 +1,12 @@
 use Rattle.running.specs.Throwing.{slot_none, slot_some}
 use Rattle.running.specs.Throws.{stack_is}
-use borrow.Author.Tests.{not-false}
 use Rattle.running.proofs.throwing.has_slot.Goals as goal
 
-pub returns-then-not-r : goal.returns-then-not-r
-returns-then-not-r c = slot_none _ _ c.if-not-r.true
+pub returns-in_default : goal.returns-in_default
+returns-in_default c = rw c.in_default.is (slot_none _)
 
 pub site_of-x-requires : goal.site_of-x-requires
-site_of-x-requires c = (c.requires.0, c.requires.1.of (not-false _ c.if-not-r.false))
+site_of-x-requires c = (c.requires.0, c.requires.1.of _ c.in-Some.is)
 
 pub returns : goal.returns
-returns c = slot_some _ _ _ c.if-not-r.false (stack_is _ _ _ c.requires.0 c.args.r.call (c.requires.1.of (not-false _ c.if-not-r.false)) _ c.site_of-x.ensures)
+returns c = rw c.in-Some.is (slot_some _ _ _ (stack_is _ _ _ c.requires.0 c.in-Some.r.call (c.requires.1.of _ c.in-Some.is) _ c.site_of-x.ensures))

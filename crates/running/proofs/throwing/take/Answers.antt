@@ -1,5 +1,5 @@
 use Rattle.running.specs.Throwing.{with_one}
-use borrow.Author.Rules.{rules}
+use Rattle.std.proofs.Common.{rules}
 use Rattle.running.proofs.throwing.take.Goals as goal
 
 pub returns : goal.returns

@@ -1,5 +1,4 @@
-use native.Mathlib.Omega.{arith}
-use Rattle.rules.specs.OpcodeSizes.{beyond}
+use Rattle.std.proofs.Common.{arith}
 use Rattle.shaping.specs.Asks.{packs, packed_at, packed_past}
 use Rattle.shaping.proofs.asks.packed.Goals as goal
 
@@ -68,4 +67,4 @@ unfolding packed_at packs
 returns-in-15 c = rw c.in-15.is
 
 pub returns-in_default : goal.returns-in_default
-returns-in_default c = packed_past c.args.k (beyond 15 _ (beyond 14 _ (beyond 13 _ (beyond 12 _ (beyond 11 _ (beyond 10 _ (beyond 9 _ (beyond 8 _ (beyond 7 _ (beyond 6 _ (beyond 5 _ (beyond 4 _ (beyond 3 _ (beyond 2 _ (beyond 1 _ (beyond 0 _ (omega arith) c.in_default.in_default-own.rest.0.0.0.0.0.0.0.0.0.0.0.0.0.0.0.1) c.in_default.in_default-own.rest.0.0.0.0.0.0.0.0.0.0.0.0.0.0.1) c.in_default.in_default-own.rest.0.0.0.0.0.0.0.0.0.0.0.0.0.1) c.in_default.in_default-own.rest.0.0.0.0.0.0.0.0.0.0.0.0.1) c.in_default.in_default-own.rest.0.0.0.0.0.0.0.0.0.0.0.1) c.in_default.in_default-own.rest.0.0.0.0.0.0.0.0.0.0.1) c.in_default.in_default-own.rest.0.0.0.0.0.0.0.0.0.1) c.in_default.in_default-own.rest.0.0.0.0.0.0.0.0.1) c.in_default.in_default-own.rest.0.0.0.0.0.0.0.1) c.in_default.in_default-own.rest.0.0.0.0.0.0.1) c.in_default.in_default-own.rest.0.0.0.0.0.1) c.in_default.in_default-own.rest.0.0.0.0.1) c.in_default.in_default-own.rest.0.0.0.1) c.in_default.in_default-own.rest.0.0.1) c.in_default.in_default-own.rest.0.1) c.in_default.in_default-own.rest.1)
+returns-in_default c = packed_past c.args.k (omega arith)

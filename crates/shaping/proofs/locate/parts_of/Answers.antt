@@ -1,17 +1,9 @@
-use Rattle.std.proofs.Common.{ap, ne_eqb, eq-eqb}
-use mathlib.Core.Bool.{not}
+use Rattle.std.proofs.Common.{ap, ne_eqb, eq-eqb, not}
 use Rattle.shaping.specs.Located.{parts_none, parts_some}
-use native.Mathlib.Omega.{arith}
 use Rattle.shaping.proofs.locate.parts_of.Goals as goal
 
 pub returns-then-not-codes : goal.returns-then-not-codes
 returns-then-not-codes c = parts_none _ _ _ _ c.method_word-codes.ensures.0 (ap not (ne_eqb _ 1 c.if-not-codes.true))
 
-pub overflow_add-q-3 : goal.overflow_add-q-3
-overflow_add-q-3 c = omega (arith, c.method_word-q.ensures.1, c.u4_at-size.ensures.1)
-
-pub overflow_add-result : goal.overflow_add-result
-overflow_add-result c = omega (arith, c.method_word-q.ensures.1, c.u4_at-size.ensures.1)
-
 pub returns : goal.returns
-returns c = parts_some _ _ _ _ c.method_word-codes.ensures.0 (ap not (eq-eqb _ 1 c.if-not-codes.false)) _ _ _ _ _ _ _ _ c.cut-code.result c.cut-frames.result c.method_word-q.ensures.0 c.method_word-q.ensures.1 c.u4_at-size.ensures.0 c.u4_at-size.ensures.1 c.cut-code.ensures c.method_word-tables.ensures.0 c.method_word-a.ensures.0 c.method_word-k.ensures.0 c.cut-frames.ensures c.u2_at.ensures.0 c.u2_at-2.ensures.0 c.u2_at-3.ensures.0
+returns c = parts_some _ _ _ _ c.method_word-codes.ensures.0 (ap not (eq-eqb _ 1 c.if-not-codes.false)) _ _ _ _ _ _ _ _ c.cut_span-code.result c.cut_span-frames.result c.method_word-q.ensures.0 c.method_word-q.ensures.1 c.u4_at-size.ensures.0 c.u4_at-size.ensures.1 c.cut_span-code.ensures c.method_word-tables.ensures.0 c.method_word-a.ensures.0 c.method_word-k.ensures.0 c.cut_span-frames.ensures c.u2_at.ensures.0 c.u2_at-2.ensures.0 c.u2_at-3.ensures.0

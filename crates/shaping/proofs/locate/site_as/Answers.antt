@@ -1,6 +1,5 @@
 use Rattle.shaping.specs.Located.{located}
-use mathlib.Core.Path.{refl}
-use native.Mathlib.Omega.{arith}
+use Rattle.std.proofs.Common.{refl, arith}
 use Rattle.shaping.proofs.locate.site_as.Goals as goal
 
 pub method_word-codes-requires : goal.method_word-codes-requires

@@ -1,6 +1,5 @@
-use Prim.Native.Nat.{◌+◌, ◌-◌}
+use Rattle.std.proofs.Common.{◌+◌, ◌-◌, rules}
 use Rattle.shaping.specs.MarkLaws.{clear_is}
-use borrow.Author.Rules.{rules}
 use Rattle.shaping.proofs.marks.clear_marks.Goals as goal
 
 pub returns : goal.returns

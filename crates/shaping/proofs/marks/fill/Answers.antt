@@ -1,4 +1,3 @@
-use native.Mathlib.Omega.{arith}
 use Rattle.texts.specs.Reading.{part}
 use Rattle.shaping.specs.ScanLaws.{scan_less}
 use Rattle.shaping.specs.FillLaws.{fill_start, fill_end, fill_room, fill_listed, fill_turn}
@@ -16,17 +15,8 @@ pub loop-o-init : goal.loop-o-init
 unfolding part
 loop-o-init c = fill_start _ _ _ c.requires.0 c.requires.1 c.requires.3 c.requires.4
 
-pub overflow_sub-x : goal.overflow_sub-x
-overflow_sub-x c = c.requires.0.bounded.from
-
-pub overflow_add-t : goal.overflow_add-t
-overflow_add-t c = omega (arith, c.loop-o-test.true, c.requires.0.bounded.size)
-
 pub bounds-t-o : goal.bounds-t-o
 bounds-t-o c = fill_room _ _ _ c.requires.0 c.requires.1 _ _ c.loop-o.invariant c.loop-o-test.true c.requires.2
-
-pub overflow_add-o : goal.overflow_add-o
-overflow_add-o c = omega (arith, c.loop-o-test.true, c.requires.0.bounded.size, c.size_at-o.ensures.1)
 
 pub loop-o-smaller : goal.loop-o-smaller
 unfolding part
@@ -35,9 +25,6 @@ loop-o-smaller c = scan_less _ _ _ c.loop-o-test.true (fill_listed _ _ _ c.requi
 pub loop-o-preserved : goal.loop-o-preserved
 unfolding part
 loop-o-preserved c = fill_turn _ _ _ c.requires.0 c.requires.1 _ _ c.loop-o.invariant _ c.loop-o-test.true c.size_at-o.ensures.0 _ c.byte.ensures.0 c.byte.ensures.1 _ c.opcode_mark.ensures c.requires.2
-
-pub shape_of-t : goal.shape_of-t
-shape_of-t c = c.loop-o.invariant.long
 
 pub returns : goal.returns
 returns c = fill_end _ _ _ c.requires.0 c.requires.1 _ _ c.loop-o.invariant c.loop-o-test.false c.requires.2

@@ -1,4 +1,4 @@
-use Prim.Native.Nat.{◌-◌}
+use Rattle.std.proofs.Common.{◌-◌}
 use Rattle.shaping.specs.FillLaws.{Filling}
 use Rattle.shaping.proofs.marks.fill.Given as goal
 

@@ -1,7 +1,6 @@
 use Rattle.shaping.specs.TraitLaws.{by_traits}
 use Rattle.rules.specs.Instruction.{Traits, all_below}
-use mathlib.Core.Path.{refl}
-use mathlib.Core.Bool.{cond, false}
+use Rattle.std.proofs.Common.{refl, cond, false}
 use Rattle.shaping.specs.TraitLaws.{plain-traits, stack-traits, leave-traits, call-traits, branch_form}
 use Rattle.shaping.proofs.marks.form_ok.Goals as goal
 
@@ -11,23 +10,11 @@ returns-in-Simple c = by_traits (λ (T : Traits). cond T.legal (all_below c.args
 pub returns-in-Jump : goal.returns-in-Jump
 returns-in-Jump c = rw (c.in-Jump.is, branch_form _ _)
 
-pub returns-in-OnLocal : goal.returns-in-OnLocal
-returns-in-OnLocal c = rw c.in-OnLocal.is c.local_ok.ensures
-
 pub returns-in-OnStack : goal.returns-in-OnStack
 returns-in-OnStack c = by_traits (λ (T : Traits). cond T.legal (all_below c.args.n T.locals) false) _ _ _ _ c.in-OnStack.is (stack-traits c.in-OnStack.field-0) refl
 
 pub returns-in-Leaving : goal.returns-in-Leaving
 returns-in-Leaving c = by_traits (λ (T : Traits). cond T.legal (all_below c.args.n T.locals) false) _ _ _ _ c.in-Leaving.is (leave-traits c.in-Leaving.field-0) refl
 
-pub returns-in-New : goal.returns-in-New
-returns-in-New c = rw c.in-New.is
-
 pub returns-in-Calling : goal.returns-in-Calling
 returns-in-Calling c = by_traits (λ (T : Traits). cond T.legal (all_below c.args.n T.locals) false) _ _ _ _ c.in-Calling.is (call-traits c.in-Calling.field-0) refl
-
-pub returns-in-Illegal : goal.returns-in-Illegal
-returns-in-Illegal c = rw c.in-Illegal.is
-
-pub returns-in-Unresolved : goal.returns-in-Unresolved
-returns-in-Unresolved c = rw c.in-Unresolved.is

@@ -2,9 +2,7 @@ use Rattle.shaping.specs.TraitLaws.{by_traits, by_told}
 use Rattle.rules.specs.Instruction.{Traits, is_some, is_new}
 use Rattle.rules.specs.InstructionWords.{instr_of}
 use Rattle.rules.specs.declared.instruction.Instr as code
-use mathlib.Core.Path.{refl, ap}
-use Prim.Native.Nat.{ℕ}
-use mathlib.Core.Bool.{Bool, cond}
+use Rattle.std.proofs.Common.{refl, ap, ℕ, Bool, cond}
 use Rattle.shaping.specs.TraitLaws.{plain-traits, stack-traits, leave-traits, call-traits, branch-new, local_new}
 use Rattle.shaping.proofs.marks.mark_of.Goals as goal
 
@@ -23,14 +21,5 @@ returns-in-OnStack c = by_traits (λ (T : Traits). cond {A = ℕ} (is_some T.mak
 pub returns-in-Leaving : goal.returns-in-Leaving
 returns-in-Leaving c = by_traits (λ (T : Traits). cond {A = ℕ} (is_some T.makes) 2 1) _ _ _ _ c.in-Leaving.is (leave-traits c.in-Leaving.field-0) refl
 
-pub returns-in-New : goal.returns-in-New
-returns-in-New c = rw c.in-New.is
-
 pub returns-in-Calling : goal.returns-in-Calling
 returns-in-Calling c = by_traits (λ (T : Traits). cond {A = ℕ} (is_some T.makes) 2 1) _ _ _ _ c.in-Calling.is (call-traits c.in-Calling.field-0) refl
-
-pub returns-in-Illegal : goal.returns-in-Illegal
-returns-in-Illegal c = rw c.in-Illegal.is
-
-pub returns-in-Unresolved : goal.returns-in-Unresolved
-returns-in-Unresolved c = rw c.in-Unresolved.is

@@ -1,5 +1,4 @@
-use mathlib.Core.Path.{sym}
-use borrow.Author.Tests.{eq-eqb, ne_eqb}
+use Rattle.std.proofs.Common.{sym, eq-eqb, ne_eqb}
 use Rattle.shaping.proofs.marks.opcode_mark.Goals as goal
 
 pub returns-then-op-eq187 : goal.returns-then-op-eq187

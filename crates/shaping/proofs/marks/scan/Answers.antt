@@ -30,17 +30,17 @@ pub returns-then-code-o : goal.returns-then-code-o
 unfolding part
 returns-then-code-o c = scan_cut _ _ _ c.requires.0 c.requires.1 _ _ _ c.loop-o.invariant c.loop-o-test.true c.size_at-n.ensures.0 c.if-n-eq0.false c.if-code-o.true
 
-pub mark_at-m-requires : goal.mark_at-m-requires
+pub mark_at-requires : goal.mark_at-requires
 unfolding part
-mark_at-m-requires c = c.loop-o-test.true
+mark_at-requires c = c.loop-o-test.true
 
-pub shape_of-t-then-m-eq0 : goal.shape_of-t-then-m-eq0
+pub shape_of-t-in_default : goal.shape_of-t-in_default
 unfolding part
-shape_of-t-then-m-eq0 c = c.loop-o.invariant.long
+shape_of-t-in_default c = c.loop-o.invariant.long
 
-pub returns-then-m-eq0 : goal.returns-then-m-eq0
+pub returns-in_default : goal.returns-in_default
 unfolding part
-returns-then-m-eq0 c = scan_bad _ _ _ c.requires.0 c.requires.1 _ _ _ c.loop-o.invariant c.loop-o-test.true c.size_at-n.ensures.0 c.if-n-eq0.false c.if-code-o.false _ c.mark_at-m.ensures c.if-m-eq0.true
+returns-in_default c = scan_bad _ _ _ c.requires.0 c.requires.1 _ _ _ c.loop-o.invariant c.loop-o-test.true c.size_at-n.ensures.0 c.if-n-eq0.false c.if-code-o.false c.in_default.ensures
 
 pub bounds-t-o : goal.bounds-t-o
 unfolding part
@@ -52,7 +52,7 @@ loop-o-smaller c = scan_less _ _ _ c.loop-o-test.true c.if-n-eq0.false
 
 pub loop-o-preserved : goal.loop-o-preserved
 unfolding part
-loop-o-preserved c = scan_turn _ _ _ c.requires.0 c.requires.1 _ _ _ c.loop-o.invariant c.loop-o-test.true c.size_at-n.ensures.0 c.if-n-eq0.false c.if-code-o.false _ c.mark_at-m.ensures c.if-m-eq0.false (scan_room _ _ _ _ _ c.requires.0 c.loop-o.invariant c.loop-o-test.true c.requires.2)
+loop-o-preserved c = scan_turn _ _ _ c.requires.0 c.requires.1 _ _ _ c.loop-o.invariant c.loop-o-test.true c.size_at-n.ensures.0 c.if-n-eq0.false c.if-code-o.false _ c.in-Some.ensures (scan_room _ _ _ _ _ c.requires.0 c.loop-o.invariant c.loop-o-test.true c.requires.2)
 
 pub shape_of-t : goal.shape_of-t
 unfolding part

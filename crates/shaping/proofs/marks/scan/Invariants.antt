@@ -1,5 +1,4 @@
-use Prim.Native.Nat.{◌-◌}
-use lib.ListN.{length}
+use Rattle.std.proofs.Common.{◌-◌, length}
 use Rattle.shaping.specs.ScanLaws.{Scanning}
 use Rattle.shaping.proofs.marks.scan.Given as goal
 

@@ -1,5 +1,5 @@
 use Rattle.shaping.specs.Resolving.{class_here, class-nowhere}
-use native.Mathlib.Omega.{arith}
+use Rattle.std.proofs.Common.{arith}
 use Rattle.shaping.proofs.resolve.class_named.Goals as goal
 
 pub returns-then-w-eq2 : goal.returns-then-w-eq2

@@ -1,8 +1,5 @@
 use Rattle.shaping.specs.Resolving.{Filled, around_same, around_put, filled_classed, filled_same, filled_put}
-use native.Mathlib.Omega.{arith}
-use Prim.Native.Nat.{◌+◌, ◌*◌}
-use mathlib.Core.Bool.{Bool}
-use mathlib.Core.Path.{refl, subst}
+use Rattle.std.proofs.Common.{arith, ◌+◌, ◌*◌, Bool, refl, subst}
 use Rattle.shaping.proofs.resolve.fill.Goals as goal
 
 pub entry_word-w-requires : goal.entry_word-w-requires

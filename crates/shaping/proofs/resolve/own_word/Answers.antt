@@ -1,6 +1,6 @@
 use Rattle.shaping.specs.Resolving.{entry_there, own_number, own_type, own_none}
 use Rattle.classfiles.specs.Tags.{tag_there}
-use native.Mathlib.Omega.{arith}
+use Rattle.std.proofs.Common.{arith}
 use Rattle.shaping.proofs.resolve.own_word.Goals as goal
 
 pub overflow_cast-result : goal.overflow_cast-result

@@ -1,10 +1,7 @@
 use Rattle.shaping.specs.Kept.{bundle_size, prepared_after}
 use Rattle.shaping.specs.Resolving.{around_both, tables_same, limited_same, filled_blank, filled_next, filled_all}
-use native.Mathlib.Omega.{arith}
+use Rattle.std.proofs.Common.{arith}
 use Rattle.shaping.proofs.resolve.prepare.Goals as goal
-
-pub clear_words-requires : goal.clear_words-requires
-clear_words-requires c = (c.requires.1.most, c.requires.0)
 
 pub entries-requires : goal.entries-requires
 entries-requires c = let h = c.requires.1 in let a = c.clear_words.ensures.0 in let x = tables_same c.args.s.now c.args.n c.args.t.now _ h.most a h.parents h.limited c.requires.2 in (bundle_size c.args.s.now c.args.n c.args.t.now h, h.most, omega (arith, a.long, c.requires.0), x.0, x.1, x.2, filled_blank _ _ _ h.most c.clear_words.ensures.1)

@@ -1,5 +1,5 @@
 use Rattle.shaping.specs.Resolving.{reference_some, reference_none}
-use Prim.Native.Nat.{◌+◌}
+use Rattle.std.proofs.Common.{◌+◌}
 use Rattle.texts.specs.Reading.{u2_at}
 use Rattle.shaping.proofs.resolve.reference.Goals as goal
 

@@ -1,5 +1,5 @@
 use Rattle.shaping.specs.Resolving.{entry_there, refers_field, refers_method, refers_none}
-use native.Mathlib.Omega.{arith}
+use Rattle.std.proofs.Common.{arith}
 use Rattle.shaping.proofs.resolve.referred_word.Goals as goal
 
 pub returns-then-tag-eq9 : goal.returns-then-tag-eq9

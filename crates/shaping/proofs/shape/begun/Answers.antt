@@ -1,5 +1,5 @@
 use Rattle.shaping.specs.ShapeWhole.{begun_codes, begun_tables, begun_params, begun_marks}
-use mathlib.Core.Path.{refl}
+use Rattle.std.proofs.Common.{refl}
 use Rattle.shaping.proofs.shape.begun.Goals as goal
 
 pub returns-then-x-ne1 : goal.returns-then-x-ne1

@@ -1,7 +1,6 @@
 use Rattle.shaping.specs.ShapeLaws.{catch_below, catch_unknown}
 use Rattle.rules.specs.Handlers.{catch_in}
-use mathlib.Core.Path.{ap, ◌∙◌}
-use Prim.Native.Nat.{ℕ, ◌+◌}
+use Rattle.std.proofs.Common.{ap, ◌∙◌, ℕ, ◌+◌}
 use Rattle.shaping.proofs.shape.catch_ok.Goals as goal
 
 pub returns-then-c-x : goal.returns-then-c-x

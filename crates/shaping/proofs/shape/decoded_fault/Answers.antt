@@ -1,5 +1,4 @@
-use mathlib.Core.Path.{ap}
-use mathlib.Core.Bool.{not}
+use Rattle.std.proofs.Common.{ap, not}
 use Rattle.shaping.specs.Asks.{said, refer_far, refer_good, refer_lost}
 use Rattle.shaping.proofs.shape.decoded_fault.Goals as goal
 

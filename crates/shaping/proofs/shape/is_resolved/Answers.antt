@@ -2,7 +2,7 @@ use Rattle.shaping.specs.TraitLaws.{by_traits, by_told}
 use Rattle.rules.specs.Instruction.{Traits, resolved}
 use Rattle.rules.specs.InstructionWords.{instr_of}
 use Rattle.rules.specs.declared.instruction.Instr as code
-use mathlib.Core.Path.{refl}
+use Rattle.std.proofs.Common.{refl}
 use Rattle.shaping.specs.TraitLaws.{plain-traits, stack-traits, leave-traits, call-traits, branch-resolved, local_resolved}
 use Rattle.shaping.proofs.shape.is_resolved.Goals as goal
 
@@ -21,14 +21,5 @@ returns-in-OnStack c = by_traits (λ (T : Traits). T.resolved) _ _ _ _ c.in-OnSt
 pub returns-in-Leaving : goal.returns-in-Leaving
 returns-in-Leaving c = by_traits (λ (T : Traits). T.resolved) _ _ _ _ c.in-Leaving.is (leave-traits c.in-Leaving.field-0) refl
 
-pub returns-in-New : goal.returns-in-New
-returns-in-New c = rw c.in-New.is
-
 pub returns-in-Calling : goal.returns-in-Calling
 returns-in-Calling c = by_traits (λ (T : Traits). T.resolved) _ _ _ _ c.in-Calling.is (call-traits c.in-Calling.field-0) refl
-
-pub returns-in-Illegal : goal.returns-in-Illegal
-returns-in-Illegal c = rw c.in-Illegal.is
-
-pub returns-in-Unresolved : goal.returns-in-Unresolved
-returns-in-Unresolved c = rw c.in-Unresolved.is

@@ -3,17 +3,13 @@ use Rattle.shaping.specs.TraitLaws.{by_traits, by_told}
 use Rattle.rules.specs.Instruction.{Traits, targets}
 use Rattle.rules.specs.InstructionWords.{instr_of}
 use Rattle.rules.specs.declared.instruction.Instr as code
-use mathlib.Core.Path.{ap, sym}
+use Rattle.std.proofs.Common.{ap, sym, ◌∙◌}
 use Rattle.rules.specs.Shape.{all_starts}
-use mathlib.Core.Path.{◌∙◌}
 use Rattle.shaping.specs.TraitLaws.{plain-traits, stack-traits, leave-traits, call-traits, local_targets, leads_none}
 use Rattle.shaping.proofs.shape.leads.Goals as goal
 
 pub returns-in-Simple : goal.returns-in-Simple
 returns-in-Simple c = by_traits (λ (T : Traits). all_starts (lines_at c.args.s.now c.args.t.now c.args.x) T.targets) _ _ _ _ c.in-Simple.is (plain-traits c.in-Simple.field-0) (leads_none _)
-
-pub returns-in-Jump : goal.returns-in-Jump
-returns-in-Jump c = rw c.in-Jump.is c.branch_leads.ensures
 
 pub returns-in-OnLocal : goal.returns-in-OnLocal
 returns-in-OnLocal c = by_told (λ (i : code.Instr). all_starts (lines_at c.args.s.now c.args.t.now c.args.x) (targets (instr_of i))) _ _ _ c.in-OnLocal.is (ap (all_starts (lines_at c.args.s.now c.args.t.now c.args.x)) (local_targets c.in-OnLocal.field-0) ∙ sym (leads_none _))

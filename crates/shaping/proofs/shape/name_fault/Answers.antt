@@ -1,4 +1,4 @@
-use borrow.Author.Tests.{eq-eqb, ne_eqb}
+use Rattle.std.proofs.Common.{eq-eqb, ne_eqb}
 use Rattle.shaping.specs.Asks.{name_fault}
 use Rattle.shaping.proofs.shape.name_fault.Goals as goal
 

@@ -1,5 +1,4 @@
-use mathlib.Core.Path.{ap}
-use mathlib.Core.Bool.{not}
+use Rattle.std.proofs.Common.{ap, not}
 use Rattle.shaping.specs.ShapeLaws.{range_start, range_last, range_none}
 use Rattle.kit.specs.Pick.{calls}
 use Rattle.shaping.specs.ShapeLaws.{range_is}

@@ -1,5 +1,4 @@
-use Prim.Native.Nat.{◌-◌}
-use lib.ListN.{length}
+use Rattle.std.proofs.Common.{◌-◌, length}
 use Rattle.shaping.specs.ShapeLaws.{Referring}
 use Rattle.shaping.proofs.shape.references.Given as goal
 

@@ -2,10 +2,7 @@ use Rattle.stepping.specs.CallMoves.{call_lands, call_does}
 use Rattle.stepping.proofs.sending.call.Goals as goal
 
 pub after-requires : goal.after-requires
-after-requires c = call_lands _ _ _ _ _ _ _ _ _ _ _ _ _ _ c.requires.0 c.requires.1 c.call-r.auto.cells c.call-r.ensures
-
-pub shape_of-t : goal.shape_of-t
-shape_of-t c = c.call-r.auto.t
+after-requires c = call_lands _ _ _ _ _ _ _ _ _ _ _ _ _ _ _ _ c.requires.0 c.requires.1 c.call-r.auto.cells c.call-r.ensures c.onto.ensures
 
 pub returns : goal.returns
-returns c = call_does _ _ _ _ _ _ _ _ _ _ _ _ _ _ _ _ _ _ _ _ c.call-r.ensures c.ended-on.ensures c.after.ensures
+returns c = call_does _ _ _ _ _ _ _ _ _ _ _ _ _ _ _ _ _ _ _ _ c.call-r.ensures c.onto.ensures c.after.ensures

@@ -1,8 +1,4 @@
-use mathlib.Core.Path.{ap}
-use mathlib.Core.Bool.{not}
-use mathlib.Core.Path.{refl}
-use native.Mathlib.Omega.{arith}
-use borrow.Author.Tests.{le-leb}
+use Rattle.std.proofs.Common.{ap, not, refl, arith, le-leb}
 use Rattle.stretching.specs.Fields.{reached}
 use Rattle.plain.specs.HeapForms.{cell_as, from_as, getfield_as}
 use Rattle.plain.specs.HeapTurns.{heapsteps, likewise, guard_so, push-heap}

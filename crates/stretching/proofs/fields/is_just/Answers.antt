@@ -1,5 +1,4 @@
-use mathlib.Core.Path.{ap}
-use mathlib.Core.Bool.{not}
+use Rattle.std.proofs.Common.{ap, not}
 use Rattle.kit.specs.Bools.{not_so}
 use Rattle.stretching.specs.Fields.{just_fits}
 use Rattle.stretching.proofs.fields.is_just.Goals as goal

@@ -1,7 +1,5 @@
-use mathlib.Core.Path.{ap}
-use mathlib.Core.Bool.{not}
+use Rattle.std.proofs.Common.{ap, not, refl}
 use Rattle.kit.specs.Bools.{not_so}
-use mathlib.Core.Path.{refl}
 use Rattle.stretching.specs.Fields.{other_type}
 use Rattle.plain.specs.Turns.{holds_so}
 use Rattle.stretching.proofs.fields.takes_just.Goals as goal

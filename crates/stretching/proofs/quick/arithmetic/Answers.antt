@@ -1,124 +1,60 @@
-use mathlib.Core.Path.{refl, sym, ◌∙◌}
-use native.Mathlib.Omega.{arith}
+use Rattle.std.proofs.Common.{refl, sym, ◌∙◌, arith}
 use Rattle.rules.specs.Opcodes.{rows, row_in, row_of}
 use Rattle.rules.specs.Decoding.{made}
 use Rattle.plain.specs.HeapTurns.{windowed}
 use Rattle.stretching.specs.Quick.{ready-sized, quick_arm}
 use Rattle.stretching.proofs.quick.arithmetic.Goals as goal
 
-pub place-requires : goal.place-requires
-place-requires c = omega (arith, c.requires.0.here, c.requires.0.short)
-
 pub pop-requires : goal.pop-requires
 pop-requires c = ready-sized _ _ _ _ _ _ _ _ _ _ c.requires.0 c.place.ensures
-
-pub place-requires-in-89 : goal.place-requires-in-89
-place-requires-in-89 c = omega (arith, c.requires.0.here, c.requires.0.short)
 
 pub dup-requires : goal.dup-requires
 dup-requires c = ready-sized _ _ _ _ _ _ _ _ _ _ c.requires.0 c.place-in-89.ensures
 
-pub place-requires-in-90 : goal.place-requires-in-90
-place-requires-in-90 c = omega (arith, c.requires.0.here, c.requires.0.short)
-
 pub dup_under-requires : goal.dup_under-requires
 dup_under-requires c = ready-sized _ _ _ _ _ _ _ _ _ _ c.requires.0 c.place-in-90.ensures
-
-pub place-requires-in-95 : goal.place-requires-in-95
-place-requires-in-95 c = omega (arith, c.requires.0.here, c.requires.0.short)
 
 pub swap-requires : goal.swap-requires
 swap-requires c = ready-sized _ _ _ _ _ _ _ _ _ _ c.requires.0 c.place-in-95.ensures
 
-pub place-requires-in-96 : goal.place-requires-in-96
-place-requires-in-96 c = omega (arith, c.requires.0.here, c.requires.0.short)
-
 pub ibin-requires : goal.ibin-requires
 ibin-requires c = ready-sized _ _ _ _ _ _ _ _ _ _ c.requires.0 c.place-in-96.ensures
-
-pub place-requires-in-100 : goal.place-requires-in-100
-place-requires-in-100 c = omega (arith, c.requires.0.here, c.requires.0.short)
 
 pub ibin-requires-in-100 : goal.ibin-requires-in-100
 ibin-requires-in-100 c = ready-sized _ _ _ _ _ _ _ _ _ _ c.requires.0 c.place-in-100.ensures
 
-pub place-requires-in-104 : goal.place-requires-in-104
-place-requires-in-104 c = omega (arith, c.requires.0.here, c.requires.0.short)
-
 pub ibin-requires-in-104 : goal.ibin-requires-in-104
 ibin-requires-in-104 c = ready-sized _ _ _ _ _ _ _ _ _ _ c.requires.0 c.place-in-104.ensures
-
-pub place-requires-in-108 : goal.place-requires-in-108
-place-requires-in-108 c = omega (arith, c.requires.0.here, c.requires.0.short)
 
 pub idiv-requires : goal.idiv-requires
 idiv-requires c = ready-sized _ _ _ _ _ _ _ _ _ _ c.requires.0 c.place-in-108.ensures
 
-pub place-requires-in-112 : goal.place-requires-in-112
-place-requires-in-112 c = omega (arith, c.requires.0.here, c.requires.0.short)
-
 pub idiv-requires-in-112 : goal.idiv-requires-in-112
 idiv-requires-in-112 c = ready-sized _ _ _ _ _ _ _ _ _ _ c.requires.0 c.place-in-112.ensures
-
-pub place-requires-in-116 : goal.place-requires-in-116
-place-requires-in-116 c = omega (arith, c.requires.0.here, c.requires.0.short)
 
 pub ineg-requires : goal.ineg-requires
 ineg-requires c = ready-sized _ _ _ _ _ _ _ _ _ _ c.requires.0 c.place-in-116.ensures
 
-pub place-requires-in-120 : goal.place-requires-in-120
-place-requires-in-120 c = omega (arith, c.requires.0.here, c.requires.0.short)
-
 pub ibin-requires-in-120 : goal.ibin-requires-in-120
 ibin-requires-in-120 c = ready-sized _ _ _ _ _ _ _ _ _ _ c.requires.0 c.place-in-120.ensures
-
-pub place-requires-in-122 : goal.place-requires-in-122
-place-requires-in-122 c = omega (arith, c.requires.0.here, c.requires.0.short)
 
 pub ibin-requires-in-122 : goal.ibin-requires-in-122
 ibin-requires-in-122 c = ready-sized _ _ _ _ _ _ _ _ _ _ c.requires.0 c.place-in-122.ensures
 
-pub place-requires-in-124 : goal.place-requires-in-124
-place-requires-in-124 c = omega (arith, c.requires.0.here, c.requires.0.short)
-
 pub ibin-requires-in-124 : goal.ibin-requires-in-124
 ibin-requires-in-124 c = ready-sized _ _ _ _ _ _ _ _ _ _ c.requires.0 c.place-in-124.ensures
-
-pub place-requires-in-126 : goal.place-requires-in-126
-place-requires-in-126 c = omega (arith, c.requires.0.here, c.requires.0.short)
 
 pub ibin-requires-in-126 : goal.ibin-requires-in-126
 ibin-requires-in-126 c = ready-sized _ _ _ _ _ _ _ _ _ _ c.requires.0 c.place-in-126.ensures
 
-pub place-requires-in-128 : goal.place-requires-in-128
-place-requires-in-128 c = omega (arith, c.requires.0.here, c.requires.0.short)
-
 pub ibin-requires-in-128 : goal.ibin-requires-in-128
 ibin-requires-in-128 c = ready-sized _ _ _ _ _ _ _ _ _ _ c.requires.0 c.place-in-128.ensures
-
-pub place-requires-in-130 : goal.place-requires-in-130
-place-requires-in-130 c = omega (arith, c.requires.0.here, c.requires.0.short)
 
 pub ibin-requires-in-130 : goal.ibin-requires-in-130
 ibin-requires-in-130 c = ready-sized _ _ _ _ _ _ _ _ _ _ c.requires.0 c.place-in-130.ensures
 
-pub place-requires-in-132 : goal.place-requires-in-132
-place-requires-in-132 c = omega (arith, c.requires.0.here, c.requires.0.short)
-
-pub first-requires : goal.first-requires
-first-requires c = tt
-
-pub second-requires : goal.second-requires
-second-requires c = tt
-
-pub spread_byte-requires : goal.spread_byte-requires
-spread_byte-requires c = tt
-
 pub increment-requires : goal.increment-requires
 increment-requires c = ready-sized _ _ _ _ _ _ _ _ _ _ c.requires.0 c.place-in-132.ensures
-
-pub branches-requires : goal.branches-requires
-branches-requires c = c.requires
 
 pub returns-in-87 : goal.returns-in-87
 unfolding made row_of row_in rows
@@ -187,6 +123,3 @@ returns-in-130 c = quick_arm _ _ _ _ _ _ _ _ _ _ 1 _ _ _ _ _ _ _ 0x82 (sym c.req
 pub returns-in-132 : goal.returns-in-132
 unfolding made row_of row_in rows
 returns-in-132 c = quick_arm _ _ _ _ _ _ _ _ _ _ 3 _ _ _ _ _ _ _ 0x84 (sym c.requires.1 ∙ c.in-132.is) refl (omega arith) tt (λ P. sym (rw (c.spread_byte.ensures, c.first.ensures, c.second.ensures))) refl c.place-in-132.ensures (windowed _ _ _ _ _ _ _ _ _ c.increment.ensures)
-
-pub returns-in_default : goal.returns-in_default
-returns-in_default c = c.branches.ensures

@@ -1,130 +1,48 @@
-use mathlib.Core.Path.{refl, sym, ◌∙◌}
-use native.Mathlib.Omega.{arith}
+use Rattle.std.proofs.Common.{refl, sym, ◌∙◌, arith}
 use Rattle.rules.specs.Opcodes.{rows, row_in, row_of}
 use Rattle.rules.specs.Decoding.{made}
 use Rattle.plain.specs.HeapTurns.{windowed}
 use Rattle.stretching.specs.Quick.{ready-sized, quick_arm}
 use Rattle.stretching.proofs.quick.branches.Goals as goal
 
-pub place-requires : goal.place-requires
-place-requires c = omega (arith, c.requires.0.here, c.requires.0.short)
-
-pub leads_to-requires : goal.leads_to-requires
-leads_to-requires c = tt
-
 pub if_int-requires : goal.if_int-requires
 if_int-requires c = ready-sized _ _ _ _ _ _ _ _ _ _ c.requires.0 c.place.ensures
-
-pub place-requires-in-154 : goal.place-requires-in-154
-place-requires-in-154 c = omega (arith, c.requires.0.here, c.requires.0.short)
-
-pub leads_to-requires-in-154 : goal.leads_to-requires-in-154
-leads_to-requires-in-154 c = tt
 
 pub if_int-requires-in-154 : goal.if_int-requires-in-154
 if_int-requires-in-154 c = ready-sized _ _ _ _ _ _ _ _ _ _ c.requires.0 c.place-in-154.ensures
 
-pub place-requires-in-155 : goal.place-requires-in-155
-place-requires-in-155 c = omega (arith, c.requires.0.here, c.requires.0.short)
-
-pub leads_to-requires-in-155 : goal.leads_to-requires-in-155
-leads_to-requires-in-155 c = tt
-
 pub if_int-requires-in-155 : goal.if_int-requires-in-155
 if_int-requires-in-155 c = ready-sized _ _ _ _ _ _ _ _ _ _ c.requires.0 c.place-in-155.ensures
-
-pub place-requires-in-156 : goal.place-requires-in-156
-place-requires-in-156 c = omega (arith, c.requires.0.here, c.requires.0.short)
-
-pub leads_to-requires-in-156 : goal.leads_to-requires-in-156
-leads_to-requires-in-156 c = tt
 
 pub if_int-requires-in-156 : goal.if_int-requires-in-156
 if_int-requires-in-156 c = ready-sized _ _ _ _ _ _ _ _ _ _ c.requires.0 c.place-in-156.ensures
 
-pub place-requires-in-157 : goal.place-requires-in-157
-place-requires-in-157 c = omega (arith, c.requires.0.here, c.requires.0.short)
-
-pub leads_to-requires-in-157 : goal.leads_to-requires-in-157
-leads_to-requires-in-157 c = tt
-
 pub if_int-requires-in-157 : goal.if_int-requires-in-157
 if_int-requires-in-157 c = ready-sized _ _ _ _ _ _ _ _ _ _ c.requires.0 c.place-in-157.ensures
-
-pub place-requires-in-158 : goal.place-requires-in-158
-place-requires-in-158 c = omega (arith, c.requires.0.here, c.requires.0.short)
-
-pub leads_to-requires-in-158 : goal.leads_to-requires-in-158
-leads_to-requires-in-158 c = tt
 
 pub if_int-requires-in-158 : goal.if_int-requires-in-158
 if_int-requires-in-158 c = ready-sized _ _ _ _ _ _ _ _ _ _ c.requires.0 c.place-in-158.ensures
 
-pub place-requires-in-159 : goal.place-requires-in-159
-place-requires-in-159 c = omega (arith, c.requires.0.here, c.requires.0.short)
-
-pub leads_to-requires-in-159 : goal.leads_to-requires-in-159
-leads_to-requires-in-159 c = tt
-
 pub if_two-requires : goal.if_two-requires
 if_two-requires c = ready-sized _ _ _ _ _ _ _ _ _ _ c.requires.0 c.place-in-159.ensures
-
-pub place-requires-in-160 : goal.place-requires-in-160
-place-requires-in-160 c = omega (arith, c.requires.0.here, c.requires.0.short)
-
-pub leads_to-requires-in-160 : goal.leads_to-requires-in-160
-leads_to-requires-in-160 c = tt
 
 pub if_two-requires-in-160 : goal.if_two-requires-in-160
 if_two-requires-in-160 c = ready-sized _ _ _ _ _ _ _ _ _ _ c.requires.0 c.place-in-160.ensures
 
-pub place-requires-in-161 : goal.place-requires-in-161
-place-requires-in-161 c = omega (arith, c.requires.0.here, c.requires.0.short)
-
-pub leads_to-requires-in-161 : goal.leads_to-requires-in-161
-leads_to-requires-in-161 c = tt
-
 pub if_two-requires-in-161 : goal.if_two-requires-in-161
 if_two-requires-in-161 c = ready-sized _ _ _ _ _ _ _ _ _ _ c.requires.0 c.place-in-161.ensures
-
-pub place-requires-in-162 : goal.place-requires-in-162
-place-requires-in-162 c = omega (arith, c.requires.0.here, c.requires.0.short)
-
-pub leads_to-requires-in-162 : goal.leads_to-requires-in-162
-leads_to-requires-in-162 c = tt
 
 pub if_two-requires-in-162 : goal.if_two-requires-in-162
 if_two-requires-in-162 c = ready-sized _ _ _ _ _ _ _ _ _ _ c.requires.0 c.place-in-162.ensures
 
-pub place-requires-in-163 : goal.place-requires-in-163
-place-requires-in-163 c = omega (arith, c.requires.0.here, c.requires.0.short)
-
-pub leads_to-requires-in-163 : goal.leads_to-requires-in-163
-leads_to-requires-in-163 c = tt
-
 pub if_two-requires-in-163 : goal.if_two-requires-in-163
 if_two-requires-in-163 c = ready-sized _ _ _ _ _ _ _ _ _ _ c.requires.0 c.place-in-163.ensures
-
-pub place-requires-in-164 : goal.place-requires-in-164
-place-requires-in-164 c = omega (arith, c.requires.0.here, c.requires.0.short)
-
-pub leads_to-requires-in-164 : goal.leads_to-requires-in-164
-leads_to-requires-in-164 c = tt
 
 pub if_two-requires-in-164 : goal.if_two-requires-in-164
 if_two-requires-in-164 c = ready-sized _ _ _ _ _ _ _ _ _ _ c.requires.0 c.place-in-164.ensures
 
-pub place-requires-in-167 : goal.place-requires-in-167
-place-requires-in-167 c = omega (arith, c.requires.0.here, c.requires.0.short)
-
-pub leads_to-requires-in-167 : goal.leads_to-requires-in-167
-leads_to-requires-in-167 c = tt
-
 pub jump-requires : goal.jump-requires
 jump-requires c = ready-sized _ _ _ _ _ _ _ _ _ _ c.requires.0 c.place-in-167.ensures
-
-pub others-requires : goal.others-requires
-others-requires c = c.requires
 
 pub returns-in-153 : goal.returns-in-153
 unfolding made row_of row_in rows
@@ -177,6 +95,3 @@ returns-in-164 c = quick_arm _ _ _ _ _ _ _ _ _ _ 3 _ _ _ _ _ _ _ 0xa4 (sym c.req
 pub returns-in-167 : goal.returns-in-167
 unfolding made row_of row_in rows
 returns-in-167 c = quick_arm _ _ _ _ _ _ _ _ _ _ 3 _ _ _ _ _ _ _ 0xa7 (sym c.requires.1 ∙ c.in-167.is) refl (omega arith) (omega (arith, c.leads_to-in-167.ensures)) (λ P. sym (rw c.leads_to-in-167.ensures)) refl c.place-in-167.ensures (windowed _ _ _ _ _ _ _ _ _ c.jump.ensures)
-
-pub returns-in_default : goal.returns-in_default
-returns-in_default c = c.others.ensures

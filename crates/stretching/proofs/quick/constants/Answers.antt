@@ -1,91 +1,42 @@
-use mathlib.Core.Path.{refl, sym, ◌∙◌}
-use native.Mathlib.Omega.{arith}
+use Rattle.std.proofs.Common.{refl, sym, ◌∙◌, arith}
 use Rattle.rules.specs.Opcodes.{rows, row_in, row_of}
 use Rattle.rules.specs.Decoding.{made}
 use Rattle.plain.specs.HeapTurns.{windowed}
 use Rattle.stretching.specs.Quick.{ready-sized, quick_arm}
 use Rattle.stretching.proofs.quick.constants.Goals as goal
 
-pub place-requires : goal.place-requires
-place-requires c = omega (arith, c.requires.0.here, c.requires.0.short)
-
 pub nop-requires : goal.nop-requires
 nop-requires c = ready-sized _ _ _ _ _ _ _ _ _ _ c.requires.0 c.place.ensures
-
-pub place-requires-in-1 : goal.place-requires-in-1
-place-requires-in-1 c = omega (arith, c.requires.0.here, c.requires.0.short)
 
 pub null-requires : goal.null-requires
 null-requires c = ready-sized _ _ _ _ _ _ _ _ _ _ c.requires.0 c.place-in-1.ensures
 
-pub place-requires-in-2 : goal.place-requires-in-2
-place-requires-in-2 c = omega (arith, c.requires.0.here, c.requires.0.short)
-
 pub constant-requires : goal.constant-requires
 constant-requires c = ready-sized _ _ _ _ _ _ _ _ _ _ c.requires.0 c.place-in-2.ensures
-
-pub place-requires-in-3 : goal.place-requires-in-3
-place-requires-in-3 c = omega (arith, c.requires.0.here, c.requires.0.short)
 
 pub constant-requires-in-3 : goal.constant-requires-in-3
 constant-requires-in-3 c = ready-sized _ _ _ _ _ _ _ _ _ _ c.requires.0 c.place-in-3.ensures
 
-pub place-requires-in-4 : goal.place-requires-in-4
-place-requires-in-4 c = omega (arith, c.requires.0.here, c.requires.0.short)
-
 pub constant-requires-in-4 : goal.constant-requires-in-4
 constant-requires-in-4 c = ready-sized _ _ _ _ _ _ _ _ _ _ c.requires.0 c.place-in-4.ensures
-
-pub place-requires-in-5 : goal.place-requires-in-5
-place-requires-in-5 c = omega (arith, c.requires.0.here, c.requires.0.short)
 
 pub constant-requires-in-5 : goal.constant-requires-in-5
 constant-requires-in-5 c = ready-sized _ _ _ _ _ _ _ _ _ _ c.requires.0 c.place-in-5.ensures
 
-pub place-requires-in-6 : goal.place-requires-in-6
-place-requires-in-6 c = omega (arith, c.requires.0.here, c.requires.0.short)
-
 pub constant-requires-in-6 : goal.constant-requires-in-6
 constant-requires-in-6 c = ready-sized _ _ _ _ _ _ _ _ _ _ c.requires.0 c.place-in-6.ensures
-
-pub place-requires-in-7 : goal.place-requires-in-7
-place-requires-in-7 c = omega (arith, c.requires.0.here, c.requires.0.short)
 
 pub constant-requires-in-7 : goal.constant-requires-in-7
 constant-requires-in-7 c = ready-sized _ _ _ _ _ _ _ _ _ _ c.requires.0 c.place-in-7.ensures
 
-pub place-requires-in-8 : goal.place-requires-in-8
-place-requires-in-8 c = omega (arith, c.requires.0.here, c.requires.0.short)
-
 pub constant-requires-in-8 : goal.constant-requires-in-8
 constant-requires-in-8 c = ready-sized _ _ _ _ _ _ _ _ _ _ c.requires.0 c.place-in-8.ensures
-
-pub place-requires-in-16 : goal.place-requires-in-16
-place-requires-in-16 c = omega (arith, c.requires.0.here, c.requires.0.short)
-
-pub first-requires : goal.first-requires
-first-requires c = tt
-
-pub spread_byte-requires : goal.spread_byte-requires
-spread_byte-requires c = tt
 
 pub constant-requires-in-16 : goal.constant-requires-in-16
 constant-requires-in-16 c = ready-sized _ _ _ _ _ _ _ _ _ _ c.requires.0 c.place-in-16.ensures
 
-pub place-requires-in-17 : goal.place-requires-in-17
-place-requires-in-17 c = omega (arith, c.requires.0.here, c.requires.0.short)
-
-pub bytes-requires : goal.bytes-requires
-bytes-requires c = tt
-
-pub spread_half-requires : goal.spread_half-requires
-spread_half-requires c = tt
-
 pub constant-requires-in-17 : goal.constant-requires-in-17
 constant-requires-in-17 c = ready-sized _ _ _ _ _ _ _ _ _ _ c.requires.0 c.place-in-17.ensures
-
-pub loads-requires : goal.loads-requires
-loads-requires c = c.requires
 
 pub returns-in-0 : goal.returns-in-0
 unfolding made row_of row_in rows
@@ -130,6 +81,3 @@ returns-in-16 c = quick_arm _ _ _ _ _ _ _ _ _ _ 2 _ _ _ _ _ _ _ 0x10 (sym c.requ
 pub returns-in-17 : goal.returns-in-17
 unfolding made row_of row_in rows
 returns-in-17 c = quick_arm _ _ _ _ _ _ _ _ _ _ 3 _ _ _ _ _ _ _ 0x11 (sym c.requires.1 ∙ c.in-17.is) refl (omega arith) tt (λ P. sym (rw (c.spread_half.ensures, c.bytes.ensures))) refl c.place-in-17.ensures (windowed _ _ _ _ _ _ _ _ _ c.constant-in-17.ensures)
-
-pub returns-in_default : goal.returns-in_default
-returns-in_default c = c.loads.ensures

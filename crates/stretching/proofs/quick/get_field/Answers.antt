@@ -1,27 +1,11 @@
-use mathlib.Core.Path.{refl}
-use native.Mathlib.Omega.{arith}
+use Rattle.std.proofs.Common.{refl, arith}
 use Rattle.rules.specs.Opcodes.{rows, row_in, row_of}
 use Rattle.rules.specs.Decoding.{made}
 use Rattle.stretching.specs.Quick.{ready-sized, quick_elsewhere, quick_arm, made_get}
 use Rattle.stretching.proofs.quick.get_field.Goals as goal
 
-pub named-r-requires : goal.named-r-requires
-named-r-requires c = tt
-
-pub elsewhere-requires : goal.elsewhere-requires
-elsewhere-requires c = tt
-
 pub returns-then-r-ne3 : goal.returns-then-r-ne3
-returns-then-r-ne3 c = quick_elsewhere _ _ _ _ _ _ _ _ _ _ _ c.elsewhere.ensures.0 c.elsewhere.ensures.1
-
-pub place-c-requires : goal.place-c-requires
-place-c-requires c = omega (arith, c.requires.0.here, c.requires.0.short)
-
-pub kin-requires : goal.kin-requires
-kin-requires c = tt
-
-pub field-requires : goal.field-requires
-field-requires c = tt
+returns-then-r-ne3 c = quick_elsewhere _ _ _ _ _ _ _ _ _ _ _
 
 pub getfield-requires : goal.getfield-requires
 getfield-requires c = ready-sized _ _ _ _ _ _ _ _ _ _ c.requires.0 c.place-c.ensures

@@ -1,97 +1,45 @@
-use mathlib.Core.Path.{refl, sym, ◌∙◌}
-use native.Mathlib.Omega.{arith}
+use Rattle.std.proofs.Common.{refl, sym, ◌∙◌, arith}
 use Rattle.rules.specs.Opcodes.{rows, row_in, row_of}
 use Rattle.rules.specs.Decoding.{made}
 use Rattle.plain.specs.HeapTurns.{windowed}
 use Rattle.stretching.specs.Quick.{ready-sized, quick_arm}
 use Rattle.stretching.proofs.quick.loads.Goals as goal
 
-pub place-requires : goal.place-requires
-place-requires c = omega (arith, c.requires.0.here, c.requires.0.short)
-
-pub first-requires : goal.first-requires
-first-requires c = tt
-
 pub load_int-requires : goal.load_int-requires
 load_int-requires c = ready-sized _ _ _ _ _ _ _ _ _ _ c.requires.0 c.place.ensures
-
-pub place-requires-in-25 : goal.place-requires-in-25
-place-requires-in-25 c = omega (arith, c.requires.0.here, c.requires.0.short)
-
-pub first-requires-in-25 : goal.first-requires-in-25
-first-requires-in-25 c = tt
 
 pub load_ref-requires : goal.load_ref-requires
 load_ref-requires c = ready-sized _ _ _ _ _ _ _ _ _ _ c.requires.0 c.place-in-25.ensures
 
-pub place-requires-in-26 : goal.place-requires-in-26
-place-requires-in-26 c = omega (arith, c.requires.0.here, c.requires.0.short)
-
 pub load_int-requires-in-26 : goal.load_int-requires-in-26
 load_int-requires-in-26 c = ready-sized _ _ _ _ _ _ _ _ _ _ c.requires.0 c.place-in-26.ensures
-
-pub place-requires-in-27 : goal.place-requires-in-27
-place-requires-in-27 c = omega (arith, c.requires.0.here, c.requires.0.short)
 
 pub load_int-requires-in-27 : goal.load_int-requires-in-27
 load_int-requires-in-27 c = ready-sized _ _ _ _ _ _ _ _ _ _ c.requires.0 c.place-in-27.ensures
 
-pub place-requires-in-28 : goal.place-requires-in-28
-place-requires-in-28 c = omega (arith, c.requires.0.here, c.requires.0.short)
-
 pub load_int-requires-in-28 : goal.load_int-requires-in-28
 load_int-requires-in-28 c = ready-sized _ _ _ _ _ _ _ _ _ _ c.requires.0 c.place-in-28.ensures
-
-pub place-requires-in-29 : goal.place-requires-in-29
-place-requires-in-29 c = omega (arith, c.requires.0.here, c.requires.0.short)
 
 pub load_int-requires-in-29 : goal.load_int-requires-in-29
 load_int-requires-in-29 c = ready-sized _ _ _ _ _ _ _ _ _ _ c.requires.0 c.place-in-29.ensures
 
-pub place-requires-in-42 : goal.place-requires-in-42
-place-requires-in-42 c = omega (arith, c.requires.0.here, c.requires.0.short)
-
 pub load_ref-requires-in-42 : goal.load_ref-requires-in-42
 load_ref-requires-in-42 c = ready-sized _ _ _ _ _ _ _ _ _ _ c.requires.0 c.place-in-42.ensures
-
-pub place-requires-in-43 : goal.place-requires-in-43
-place-requires-in-43 c = omega (arith, c.requires.0.here, c.requires.0.short)
 
 pub load_ref-requires-in-43 : goal.load_ref-requires-in-43
 load_ref-requires-in-43 c = ready-sized _ _ _ _ _ _ _ _ _ _ c.requires.0 c.place-in-43.ensures
 
-pub place-requires-in-44 : goal.place-requires-in-44
-place-requires-in-44 c = omega (arith, c.requires.0.here, c.requires.0.short)
-
 pub load_ref-requires-in-44 : goal.load_ref-requires-in-44
 load_ref-requires-in-44 c = ready-sized _ _ _ _ _ _ _ _ _ _ c.requires.0 c.place-in-44.ensures
-
-pub place-requires-in-45 : goal.place-requires-in-45
-place-requires-in-45 c = omega (arith, c.requires.0.here, c.requires.0.short)
 
 pub load_ref-requires-in-45 : goal.load_ref-requires-in-45
 load_ref-requires-in-45 c = ready-sized _ _ _ _ _ _ _ _ _ _ c.requires.0 c.place-in-45.ensures
 
-pub kin-requires : goal.kin-requires
-kin-requires c = tt
-
-pub place-requires-in-46 : goal.place-requires-in-46
-place-requires-in-46 c = omega (arith, c.requires.0.here, c.requires.0.short)
-
 pub iaload-requires : goal.iaload-requires
 iaload-requires c = ready-sized _ _ _ _ _ _ _ _ _ _ c.requires.0 c.place-in-46.ensures
 
-pub kin-requires-in-50 : goal.kin-requires-in-50
-kin-requires-in-50 c = tt
-
-pub place-requires-in-50 : goal.place-requires-in-50
-place-requires-in-50 c = omega (arith, c.requires.0.here, c.requires.0.short)
-
 pub aaload-requires : goal.aaload-requires
 aaload-requires c = ready-sized _ _ _ _ _ _ _ _ _ _ c.requires.0 c.place-in-50.ensures
-
-pub stores-requires : goal.stores-requires
-stores-requires c = c.requires
 
 pub returns-in-21 : goal.returns-in-21
 unfolding made row_of row_in rows
@@ -140,6 +88,3 @@ returns-in-46 c = quick_arm _ _ _ _ _ _ _ _ _ _ 1 _ _ _ _ _ _ _ 0x2e (sym c.requ
 pub returns-in-50 : goal.returns-in-50
 unfolding made row_of row_in rows
 returns-in-50 c = quick_arm _ _ _ _ _ _ _ _ _ _ 1 _ _ _ _ _ _ _ 0x32 (sym c.requires.1 ∙ c.in-50.is) refl (omega arith) tt (λ P. refl) c.kin-in-50.ensures c.place-in-50.ensures c.aaload.ensures
-
-pub returns-in_default : goal.returns-in_default
-returns-in_default c = c.stores.ensures

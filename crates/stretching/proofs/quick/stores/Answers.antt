@@ -1,97 +1,45 @@
-use mathlib.Core.Path.{refl, sym, ◌∙◌}
-use native.Mathlib.Omega.{arith}
+use Rattle.std.proofs.Common.{refl, sym, ◌∙◌, arith}
 use Rattle.rules.specs.Opcodes.{rows, row_in, row_of}
 use Rattle.rules.specs.Decoding.{made}
 use Rattle.plain.specs.HeapTurns.{windowed}
 use Rattle.stretching.specs.Quick.{ready-sized, quick_arm}
 use Rattle.stretching.proofs.quick.stores.Goals as goal
 
-pub place-requires : goal.place-requires
-place-requires c = omega (arith, c.requires.0.here, c.requires.0.short)
-
-pub first-requires : goal.first-requires
-first-requires c = tt
-
 pub store_int-requires : goal.store_int-requires
 store_int-requires c = ready-sized _ _ _ _ _ _ _ _ _ _ c.requires.0 c.place.ensures
-
-pub place-requires-in-58 : goal.place-requires-in-58
-place-requires-in-58 c = omega (arith, c.requires.0.here, c.requires.0.short)
-
-pub first-requires-in-58 : goal.first-requires-in-58
-first-requires-in-58 c = tt
 
 pub store_ref-requires : goal.store_ref-requires
 store_ref-requires c = ready-sized _ _ _ _ _ _ _ _ _ _ c.requires.0 c.place-in-58.ensures
 
-pub place-requires-in-59 : goal.place-requires-in-59
-place-requires-in-59 c = omega (arith, c.requires.0.here, c.requires.0.short)
-
 pub store_int-requires-in-59 : goal.store_int-requires-in-59
 store_int-requires-in-59 c = ready-sized _ _ _ _ _ _ _ _ _ _ c.requires.0 c.place-in-59.ensures
-
-pub place-requires-in-60 : goal.place-requires-in-60
-place-requires-in-60 c = omega (arith, c.requires.0.here, c.requires.0.short)
 
 pub store_int-requires-in-60 : goal.store_int-requires-in-60
 store_int-requires-in-60 c = ready-sized _ _ _ _ _ _ _ _ _ _ c.requires.0 c.place-in-60.ensures
 
-pub place-requires-in-61 : goal.place-requires-in-61
-place-requires-in-61 c = omega (arith, c.requires.0.here, c.requires.0.short)
-
 pub store_int-requires-in-61 : goal.store_int-requires-in-61
 store_int-requires-in-61 c = ready-sized _ _ _ _ _ _ _ _ _ _ c.requires.0 c.place-in-61.ensures
-
-pub place-requires-in-62 : goal.place-requires-in-62
-place-requires-in-62 c = omega (arith, c.requires.0.here, c.requires.0.short)
 
 pub store_int-requires-in-62 : goal.store_int-requires-in-62
 store_int-requires-in-62 c = ready-sized _ _ _ _ _ _ _ _ _ _ c.requires.0 c.place-in-62.ensures
 
-pub place-requires-in-75 : goal.place-requires-in-75
-place-requires-in-75 c = omega (arith, c.requires.0.here, c.requires.0.short)
-
 pub store_ref-requires-in-75 : goal.store_ref-requires-in-75
 store_ref-requires-in-75 c = ready-sized _ _ _ _ _ _ _ _ _ _ c.requires.0 c.place-in-75.ensures
-
-pub place-requires-in-76 : goal.place-requires-in-76
-place-requires-in-76 c = omega (arith, c.requires.0.here, c.requires.0.short)
 
 pub store_ref-requires-in-76 : goal.store_ref-requires-in-76
 store_ref-requires-in-76 c = ready-sized _ _ _ _ _ _ _ _ _ _ c.requires.0 c.place-in-76.ensures
 
-pub place-requires-in-77 : goal.place-requires-in-77
-place-requires-in-77 c = omega (arith, c.requires.0.here, c.requires.0.short)
-
 pub store_ref-requires-in-77 : goal.store_ref-requires-in-77
 store_ref-requires-in-77 c = ready-sized _ _ _ _ _ _ _ _ _ _ c.requires.0 c.place-in-77.ensures
-
-pub place-requires-in-78 : goal.place-requires-in-78
-place-requires-in-78 c = omega (arith, c.requires.0.here, c.requires.0.short)
 
 pub store_ref-requires-in-78 : goal.store_ref-requires-in-78
 store_ref-requires-in-78 c = ready-sized _ _ _ _ _ _ _ _ _ _ c.requires.0 c.place-in-78.ensures
 
-pub kin-requires : goal.kin-requires
-kin-requires c = tt
-
-pub place-requires-in-79 : goal.place-requires-in-79
-place-requires-in-79 c = omega (arith, c.requires.0.here, c.requires.0.short)
-
 pub iastore-requires : goal.iastore-requires
 iastore-requires c = (ready-sized _ _ _ _ _ _ _ _ _ _ c.requires.0 c.place-in-79.ensures, c.requires.0.size)
 
-pub kin-requires-in-190 : goal.kin-requires-in-190
-kin-requires-in-190 c = tt
-
-pub place-requires-in-190 : goal.place-requires-in-190
-place-requires-in-190 c = omega (arith, c.requires.0.here, c.requires.0.short)
-
 pub length-requires : goal.length-requires
 length-requires c = ready-sized _ _ _ _ _ _ _ _ _ _ c.requires.0 c.place-in-190.ensures
-
-pub arithmetic-requires : goal.arithmetic-requires
-arithmetic-requires c = c.requires
 
 pub returns-in-54 : goal.returns-in-54
 unfolding made row_of row_in rows
@@ -140,6 +88,3 @@ returns-in-79 c = quick_arm _ _ _ _ _ _ _ _ _ _ 1 _ _ _ _ _ _ _ 0x4f (sym c.requ
 pub returns-in-190 : goal.returns-in-190
 unfolding made row_of row_in rows
 returns-in-190 c = quick_arm _ _ _ _ _ _ _ _ _ _ 1 _ _ _ _ _ _ _ 0xbe (sym c.requires.1 ∙ c.in-190.is) refl (omega arith) tt (λ P. refl) c.kin-in-190.ensures c.place-in-190.ensures c.length.ensures
-
-pub returns-in_default : goal.returns-in_default
-returns-in_default c = c.arithmetic.ensures

@@ -1,16 +1,12 @@
-use Rattle.kit.specs.Pick.{orders}
-use native.Mathlib.Omega.{arith}
 use Rattle.texts.specs.Reading.{skip_at}
 use Rattle.texts.specs.Answers.{reads}
 use Rattle.texts.proofs.items.skip.Goals as goal
-
-pub overflow_add-result : goal.overflow_add-result
-overflow_add-result c = omega (arith, c.fits_in.ensures.1 c.if-fits_in.true)
+use Rattle.kit.specs.Pick.{orders}
 
 pub returns-then-fits_in : goal.returns-then-fits_in
 unfolding skip_at
-returns-then-fits_in c = search (reads, orders) depth 12
+returns-then-fits_in g c = search (reads, orders) depth 12
 
 pub returns : goal.returns
 unfolding skip_at
-returns c = search (reads, orders) depth 12
+returns g c = search (reads, orders) depth 12

@@ -1,6 +1,7 @@
 use Rattle.texts.specs.Reading.{u4}
+use Rattle.texts.specs.Answers.{reads}
 use Rattle.texts.proofs.items.u4.Goals as goal
 
 pub returns : goal.returns
 unfolding u4
-returns c = c.num4.ensures
+returns c = search reads depth 12

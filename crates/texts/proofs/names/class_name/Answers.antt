@@ -1,6 +1,6 @@
 use Rattle.kit.specs.Pick.{calls}
 use Rattle.kit.specs.Scan.{alls}
-use native.Mathlib.Omega.{arith}
+use Rattle.std.proofs.Common.{arith}
 use Rattle.texts.specs.Names.{class_name}
 use Rattle.texts.proofs.names.class_name.Goals as goal
 
@@ -19,12 +19,6 @@ class_byte-requires c = search (alls, calls, arith) depth 12
 pub returns-then-not-class_byte : goal.returns-then-not-class_byte
 unfolding class_name
 returns-then-not-class_byte c = search (alls, calls, arith) depth 12
-
-pub overflow_add-i : goal.overflow_add-i
-overflow_add-i c = omega arith
-
-pub loop-i-smaller : goal.loop-i-smaller
-loop-i-smaller c = omega arith
 
 pub loop-i-preserved : goal.loop-i-preserved
 unfolding class_name

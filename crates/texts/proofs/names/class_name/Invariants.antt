@@ -7,6 +7,3 @@ use Rattle.texts.proofs.names.class_name.Given as goal
 
 abbrev pub invariant-loop-i : goal.invariant-loop-i
 invariant-loop-i l = (l.i ≤ length l.t) × (first_not (class_byte l.t) (length l.t - l.i) l.i ≡ first_not (class_byte l.t) (length l.t) 0)
-
-abbrev pub decreases-loop-i : goal.decreases-loop-i
-decreases-loop-i l = length l.t - l.i

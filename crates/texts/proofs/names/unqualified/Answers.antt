@@ -1,6 +1,6 @@
 use Rattle.kit.specs.Pick.{calls}
 use Rattle.kit.specs.Scan.{alls}
-use native.Mathlib.Omega.{arith}
+use Rattle.std.proofs.Common.{arith}
 use Rattle.texts.specs.Names.{unqualified}
 use Rattle.texts.proofs.names.unqualified.Goals as goal
 
@@ -19,12 +19,6 @@ plain_at-requires c = search (alls, calls, arith) depth 12
 pub returns-then-not-plain_at : goal.returns-then-not-plain_at
 unfolding unqualified
 returns-then-not-plain_at c = search (alls, calls, arith) depth 12
-
-pub overflow_add-i : goal.overflow_add-i
-overflow_add-i c = omega arith
-
-pub loop-i-smaller : goal.loop-i-smaller
-loop-i-smaller c = omega arith
 
 pub loop-i-preserved : goal.loop-i-preserved
 unfolding unqualified

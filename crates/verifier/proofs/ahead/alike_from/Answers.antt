@@ -1,25 +1,14 @@
-use native.Mathlib.Omega.{arith}
-use borrow.Author.Rules.{rules}
-use Rattle.verifier.specs.Ahead.{edging_start, edging_next, edging_end}
+use Rattle.std.specs.Prelude.{ℕ}
+use Rattle.std.proofs.Common.{arith}
+use Rattle.kit.specs.Strides.{stride_first, stride_next}
+use Rattle.verifier.specs.Ahead.{Edging, edging_start, edging_next, edging_end}
 use Rattle.verifier.proofs.ahead.alike_from.Goals as goal
 
-pub loop-left-init : goal.loop-left-init
-loop-left-init c = (omega arith, edging_start _ _ _ _ _)
+pub loop-k-init : goal.loop-k-init
+loop-k-init c = stride_first (λ (q n : ℕ). Edging c.args.s.now c.args.x.table c.args.x.entries c.args.o q n c.args.end) 8 _ _ (edging_start _ _ _ _ _)
 
-pub edge-r-requires : goal.edge-r-requires
-edge-r-requires c = search (rules, arith)
-
-pub overflow_add-q : goal.overflow_add-q
-overflow_add-q c = omega arith
-
-pub overflow_sub-left : goal.overflow_sub-left
-overflow_sub-left c = omega arith
-
-pub loop-left-smaller : goal.loop-left-smaller
-loop-left-smaller c = omega arith
-
-pub loop-left-preserved : goal.loop-left-preserved
-loop-left-preserved c = (omega arith, edging_next _ _ _ _ _ _ _ c.loop-left.invariant.1 c.loop-left-test.true _ c.edge-r.ensures)
+pub loop-k-preserved : goal.loop-k-preserved
+loop-k-preserved c = stride_next (λ (q n : ℕ). Edging c.args.s.now c.args.x.table c.args.x.entries c.args.o q n c.edge-r.result) 8 _ _ c.loop-k.k (edging_next _ _ _ _ _ _ _ c.loop-k.invariant (omega arith) _ c.edge-r.ensures)
 
 pub returns : goal.returns
-returns c = edging_end _ _ _ _ _ _ c.loop-left.invariant.1 c.loop-left-test.false
+returns c = edging_end _ _ _ _ _ _ c.loop-k.invariant (omega arith)

@@ -1,9 +1,6 @@
-use Prim.Native.Nat.{◌+◌, ◌*◌, ◌^◌, ◌≤◌}
+use Rattle.std.specs.Prelude.{◌+◌, ◌-◌, ◌*◌}
 use Rattle.verifier.specs.Ahead.{Edging}
 use Rattle.verifier.proofs.ahead.alike_from.Given as goal
 
-abbrev pub invariant-loop-left : goal.invariant-loop-left
-invariant-loop-left l = (l.q + 8 * l.left ≤ 2 ^ 63 + 256) × Edging l.s l.initial.q l.initial.left l.o l.q l.left l.r
-
-abbrev pub decreases-loop-left : goal.decreases-loop-left
-decreases-loop-left l = l.left
+abbrev pub invariant-loop-k : goal.invariant-loop-k
+invariant-loop-k l = Edging l.s l.x.table l.x.entries l.o (l.x.table + 8 * l.k) (l.x.entries - l.k) l.r

@@ -1,5 +1,4 @@
-use native.Mathlib.Omega.{arith}
-use borrow.Author.Rules.{rules}
+use Rattle.std.proofs.Common.{arith, rules}
 use Rattle.verifier.specs.Ahead.{stands_behind, stands_row}
 use Rattle.verifier.proofs.ahead.frame_at.Goals as goal
 

@@ -1,5 +1,4 @@
-use native.Mathlib.Omega.{arith}
-use borrow.Author.Rules.{rules}
+use Rattle.std.proofs.Common.{arith, rules}
 use Rattle.verifier.specs.Ahead.{nearer_not, nearer_least}
 use Rattle.verifier.proofs.ahead.nearer.Goals as goal
 
@@ -15,8 +14,5 @@ returns-then-u2_at-o c = nearer_not _ _ _ _ _ c.u2_at.ensures.0 c.if-u2_at-o.tru
 pub u2_at-requires-2 : goal.u2_at-requires-2
 u2_at-requires-2 c = search (rules, arith)
 
-pub least-requires : goal.least-requires
-least-requires c = search (rules, arith)
-
 pub returns : goal.returns
-returns c = nearer_least _ _ _ _ _ _ c.u2_at-2.ensures.0 c.least.ensures.0 c.least.ensures.1
+returns c = nearer_least _ _ _ _ _ _ c.u2_at-2.ensures.0 (omega (arith, c.min.ensures)) (omega (arith, c.min.ensures))

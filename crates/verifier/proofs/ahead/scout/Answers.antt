@@ -1,5 +1,4 @@
-use native.Mathlib.Omega.{arith}
-use borrow.Author.Rules.{rules}
+use Rattle.std.proofs.Common.{arith}
 use Rattle.verifier.specs.Ahead.{scouted}
 use Rattle.verifier.proofs.ahead.scout.Goals as goal
 
@@ -18,8 +17,5 @@ still_alike-level-requires c = (c.still_quiet-hushed.ensures, omega (arith, c.re
 pub frame_at-requires-2 : goal.frame_at-requires-2
 frame_at-requires-2 c = c.requires.1
 
-pub least-till-requires : goal.least-till-requires
-least-till-requires c = search (rules, arith)
-
 pub returns : goal.returns
-returns c = scouted _ _ _ _ _ _ _ _ c.requires.1 c.requires.2 c.frame_at.ensures c.requires.4 _ _ _ _ _ _ c.past-beyond.ensures c.still_quiet-hushed.ensures c.still_alike-level.ensures c.frame_at-2.ensures c.least-till.ensures.0 c.least-till.ensures.1
+returns c = scouted _ _ _ _ _ _ _ _ c.requires.1 c.requires.2 c.frame_at.ensures c.requires.4 _ _ _ _ _ _ c.past-beyond.ensures c.still_quiet-hushed.ensures c.still_alike-level.ensures c.frame_at-2.ensures (omega (arith, c.min-till.ensures)) (omega (arith, c.min-till.ensures))

@@ -20,7 +20,7 @@ pub returns-in-New : goal.returns-in-New
 returns-in-New c = callee_form _ _ _ c.in-New.is c.no_callee-in-New.ensures
 
 pub returns-in-Calling : goal.returns-in-Calling
-returns-in-Calling c = callee_form _ _ _ c.in-Calling.is c.callee_in.ensures
+returns-in-Calling c = callee_form _ _ _ c.in-Calling.is c.callee.ensures
 
 pub returns-in-Illegal : goal.returns-in-Illegal
 returns-in-Illegal c = callee_form _ _ _ c.in-Illegal.is c.no_callee-in-Illegal.ensures

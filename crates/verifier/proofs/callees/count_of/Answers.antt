@@ -1,5 +1,5 @@
 use Rattle.verifier.specs.Callees.{count_none, count_some}
-use native.Mathlib.Omega.{arith}
+use Rattle.std.proofs.Common.{arith}
 use Rattle.verifier.proofs.callees.count_of.Goals as goal
 
 pub returns-then-k-ge1024 : goal.returns-then-k-ge1024

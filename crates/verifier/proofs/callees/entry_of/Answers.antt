@@ -1,5 +1,5 @@
 use Rattle.verifier.specs.Callees.{entry_built_in, entry_past, entry_far, entry_none, entry_is}
-use native.Mathlib.Omega.{arith}
+use Rattle.std.proofs.Common.{arith}
 use Rattle.verifier.proofs.callees.entry_of.Goals as goal
 
 pub returns-then-c-lt11 : goal.returns-then-c-lt11

@@ -1,5 +1,4 @@
-use mathlib.Core.Path.{refl}
-use native.Mathlib.Omega.{arith}
+use Rattle.std.proofs.Common.{refl, arith}
 use Rattle.verifier.specs.Preparing.{prepared}
 use Rattle.verifier.proofs.callees.known.Goals as goal
 

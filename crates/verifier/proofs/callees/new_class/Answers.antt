@@ -1,5 +1,5 @@
 use Rattle.verifier.specs.Preparing.{made_form}
-use mathlib.Core.Path.{refl}
+use Rattle.std.proofs.Common.{refl}
 use Rattle.verifier.proofs.callees.new_class.Goals as goal
 
 pub returns-in-Simple : goal.returns-in-Simple

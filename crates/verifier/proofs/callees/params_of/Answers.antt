@@ -1,5 +1,5 @@
 use Rattle.verifier.specs.Callees.{ready_none, ready_some}
-use mathlib.Core.Path.{refl}
+use Rattle.std.proofs.Common.{refl}
 use Rattle.verifier.proofs.callees.params_of.Goals as goal
 
 pub returns-then-k-ge1024 : goal.returns-then-k-ge1024

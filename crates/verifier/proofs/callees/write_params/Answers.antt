@@ -1,6 +1,5 @@
 use Rattle.verifier.specs.Callees.{beside_none, beside_put, listed_none, listed_put, count_beside, type_beside}
-use mathlib.Core.Path.{◌≡◌, refl, ◌∙◌}
-use native.Mathlib.Omega.{arith}
+use Rattle.std.proofs.Common.{◌≡◌, refl, ◌∙◌, arith}
 use Rattle.verifier.proofs.callees.write_params.Goals as goal
 
 pub loop-i-init : goal.loop-i-init
@@ -14,12 +13,6 @@ overflow_cast-v c = omega arith
 
 pub overflow_add-i : goal.overflow_add-i
 overflow_add-i c = omega arith
-
-pub overflow_add-i-in-loop-i : goal.overflow_add-i-in-loop-i
-overflow_add-i-in-loop-i c = omega arith
-
-pub loop-i-smaller : goal.loop-i-smaller
-loop-i-smaller c = omega arith
 
 pub loop-i-preserved : goal.loop-i-preserved
 loop-i-preserved c = (c.put_word.auto.s ∙ c.loop-i.invariant.0, omega arith, beside_put _ _ _ _ _ _ c.loop-i.invariant.2 (omega arith) c.put_word.ensures, listed_put _ _ _ _ _ _ _ c.loop-i.invariant.3 c.put_word.ensures (omega arith) (omega arith) (type_beside _ _ _ c.loop-i.invariant.2 c.requires.0 _ _ _ c.described-w.ensures.1 c.param_at-v.ensures.0))

@@ -1,5 +1,4 @@
-use native.Mathlib.Omega.{arith}
-use mathlib.Core.Path.{◌≡◌, refl, ◌∙◌}
+use Rattle.std.proofs.Common.{arith, ◌≡◌, refl, ◌∙◌}
 use Rattle.verifier.specs.RowWrites.{brought_none, brought_more}
 use Rattle.verifier.proofs.frame_table.bring.Goals as goal
 
@@ -11,12 +10,6 @@ overflow_add-a c = omega arith
 
 pub overflow_add-b : goal.overflow_add-b
 overflow_add-b c = omega arith
-
-pub overflow_add-i : goal.overflow_add-i
-overflow_add-i c = omega arith
-
-pub loop-i-smaller : goal.loop-i-smaller
-loop-i-smaller c = omega arith
 
 pub loop-i-preserved : goal.loop-i-preserved
 loop-i-preserved c = (c.put_word.auto.s ∙ c.loop-i.invariant.0, omega arith, brought_more _ _ _ _ _ _ _ c.loop-i.invariant.2 (omega arith) (omega arith) c.word-w.ensures (omega arith) c.put_word.ensures)

@@ -1,4 +1,4 @@
-use native.Mathlib.Omega.{arith}
+use Rattle.std.proofs.Common.{arith}
 use Rattle.texts.specs.Reading.{part}
 use Rattle.verifier.specs.FrameTableLaws.{frames_none, frames_one}
 use Rattle.verifier.proofs.frame_table.frames.Goals as goal

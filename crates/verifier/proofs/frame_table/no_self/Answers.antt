@@ -1,4 +1,4 @@
-use native.Mathlib.Omega.{arith}
+use Rattle.std.proofs.Common.{arith}
 use Rattle.verifier.specs.RowWrites.{self_start, self_end, self_hit, self_more}
 use Rattle.verifier.proofs.frame_table.no_self.Goals as goal
 
@@ -10,12 +10,6 @@ overflow_add-a c = omega arith
 
 pub returns-then-is_uninit : goal.returns-then-is_uninit
 returns-then-is_uninit c = self_hit _ _ _ _ _ c.loop-i.invariant.1 c.loop-i-test.true _ _ _ c.word.ensures c.uninit_this.ensures c.is_uninit.ensures c.if-is_uninit.true
-
-pub overflow_add-i : goal.overflow_add-i
-overflow_add-i c = omega arith
-
-pub loop-i-smaller : goal.loop-i-smaller
-loop-i-smaller c = omega arith
 
 pub loop-i-preserved : goal.loop-i-preserved
 loop-i-preserved c = (omega arith, self_more _ _ _ _ _ c.loop-i.invariant.1 c.loop-i-test.true _ _ _ c.word.ensures c.uninit_this.ensures c.is_uninit.ensures c.if-is_uninit.false)

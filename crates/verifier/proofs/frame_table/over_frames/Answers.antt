@@ -1,22 +1,21 @@
-use native.Mathlib.Omega.{arith}
-use mathlib.Core.Path.{◌∙◌}
+use Rattle.std.proofs.Common.{◌∙◌, arith}
 use Rattle.verifier.specs.FrameTableLaws.{rows_start, rows_stop, row-asked, rows_next, rows_done, rows_left}
 use Rattle.verifier.proofs.frame_table.over_frames.Goals as goal
 
 pub loop-k-init : goal.loop-k-init
 loop-k-init c = rows_start _ _ _ _ _ _ _ c.requires.0 c.requires.2
 
-pub frame-r-requires : goal.frame-r-requires
-frame-r-requires c = (c.loop-k.invariant.ready, c.loop-k.invariant.locals, c.loop-k.invariant.near)
+pub frame-requires : goal.frame-requires
+frame-requires c = (c.loop-k.invariant.ready, c.loop-k.invariant.locals, c.loop-k.invariant.near)
 
-pub shape_of-t-then-not-r : goal.shape_of-t-then-not-r
-shape_of-t-then-not-r c = c.frame-r.ensures.besides.long ∙ c.loop-k.invariant.long
+pub shape_of-t-in_err-r : goal.shape_of-t-in_err-r
+shape_of-t-in_err-r c = c.in_err-r.ensures.besides.long ∙ c.loop-k.invariant.long
 
-pub returns-then-not-r : goal.returns-then-not-r
-returns-then-not-r c = rows_stop _ _ _ _ _ _ _ _ _ _ _ _ c.loop-k.invariant c.loop-k-test.true c.frame-r.result _ c.frame-r.ensures _ c.if-not-r.true c.refused.ensures
+pub returns-in_err-r : goal.returns-in_err-r
+returns-in_err-r c = rows_stop _ _ _ _ _ _ _ _ _ _ _ _ c.loop-k.invariant c.loop-k-test.true _ _ c.in_err-r.ensures _ c.from_residual.ensures.1
 
 pub overflow_add-o : goal.overflow_add-o
-overflow_add-o c = omega (arith, (row-asked _ _ _ _ _ _ _ _ _ _ _ _ c.loop-k.invariant c.loop-k-test.true c.frame-r.result _ c.frame-r.ensures c.if-not-r.false c.requires.1).3)
+overflow_add-o c = omega (arith, (row-asked _ _ _ _ _ _ _ _ _ _ _ _ c.loop-k.invariant c.loop-k-test.true c.in_ok-r.r _ c.in_ok-r.ensures c.requires.1).3)
 
 pub overflow_mul-k : goal.overflow_mul-k
 overflow_mul-k c = omega arith
@@ -25,19 +24,13 @@ pub overflow_add-k : goal.overflow_add-k
 overflow_add-k c = omega arith
 
 pub put_row-requires : goal.put_row-requires
-put_row-requires c = row-asked _ _ _ _ _ _ _ _ _ _ _ _ c.loop-k.invariant c.loop-k-test.true c.frame-r.result _ c.frame-r.ensures c.if-not-r.false c.requires.1
+put_row-requires c = (row-asked _ _ _ _ _ _ _ _ _ _ _ _ c.loop-k.invariant c.loop-k-test.true c.in_ok-r.r _ c.in_ok-r.ensures c.requires.1)
 
 pub overflow_add-from : goal.overflow_add-from
-overflow_add-from c = omega (arith, (row-asked _ _ _ _ _ _ _ _ _ _ _ _ c.loop-k.invariant c.loop-k-test.true c.frame-r.result _ c.frame-r.ensures c.if-not-r.false c.requires.1).3)
-
-pub overflow_add-k-in-loop-k : goal.overflow_add-k-in-loop-k
-overflow_add-k-in-loop-k c = omega arith
-
-pub loop-k-smaller : goal.loop-k-smaller
-loop-k-smaller c = omega arith
+overflow_add-from c = omega (arith, (row-asked _ _ _ _ _ _ _ _ _ _ _ _ c.loop-k.invariant c.loop-k-test.true c.in_ok-r.r _ c.in_ok-r.ensures c.requires.1).3)
 
 pub loop-k-preserved : goal.loop-k-preserved
-loop-k-preserved c = rows_next _ _ _ _ _ _ _ _ _ _ _ _ c.loop-k.invariant c.loop-k-test.true c.frame-r.result _ c.frame-r.ensures c.if-not-r.false c.requires.1 _ c.put_row.ensures
+loop-k-preserved c = rows_next _ _ _ _ _ _ _ _ _ _ _ _ c.loop-k.invariant c.loop-k-test.true c.in_ok-r.r _ c.in_ok-r.ensures c.requires.1 _ c.put_row.ensures
 
 pub shape_of-t-then-at-f : goal.shape_of-t-then-at-f
 shape_of-t-then-at-f c = c.loop-k.invariant.long
@@ -49,4 +42,4 @@ pub shape_of-t : goal.shape_of-t
 shape_of-t c = c.loop-k.invariant.long
 
 pub returns : goal.returns
-returns c = rows_left _ _ _ _ _ _ _ _ _ _ _ _ c.loop-k.invariant _ c.loop-k-test.false c.if-at-f.false c.refused-2.ensures
+returns c = rows_left _ _ _ _ _ _ _ _ _ _ _ _ c.loop-k.invariant c.loop-k-test.false c.if-at-f.false

@@ -1,4 +1,4 @@
-use mathlib.Core.Path.{refl}
+use Rattle.std.proofs.Common.{refl}
 use Rattle.rules.specs.Opcodes.{rows, row_in, row_of}
 use Rattle.rules.specs.Decoding.{made}
 use Rattle.rules.specs.Known.{hides}
@@ -46,6 +46,3 @@ returns-in-44 c = tried_arm _ _ _ _ _ _ _ _ _ _ c.requires.0 c.requires.1 _ 44 c
 pub returns-in-45 : goal.returns-in-45
 unfolding made row_of row_in rows steady hides
 returns-in-45 c = tried_arm _ _ _ _ _ _ _ _ _ _ c.requires.0 c.requires.1 _ 45 c.requires.2 c.in-45.is (OnLocal (Aload 3)) refl refl refl (λ P pool. refl) (c.load_reference-in-45.ensures _ _ _)
-
-pub returns-in_default : goal.returns-in_default
-returns-in_default c = c.constants.ensures

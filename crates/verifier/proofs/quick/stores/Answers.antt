@@ -1,4 +1,4 @@
-use mathlib.Core.Path.{refl}
+use Rattle.std.proofs.Common.{refl}
 use Rattle.rules.specs.Opcodes.{rows, row_in, row_of}
 use Rattle.rules.specs.Decoding.{made}
 use Rattle.rules.specs.Known.{hides}
@@ -46,6 +46,3 @@ returns-in-77 c = tried_arm _ _ _ _ _ _ _ _ _ _ c.requires.0 c.requires.1 _ 77 c
 pub returns-in-78 : goal.returns-in-78
 unfolding made row_of row_in rows steady hides
 returns-in-78 c = tried_arm _ _ _ _ _ _ _ _ _ _ c.requires.0 c.requires.1 _ 78 c.requires.2 c.in-78.is (OnLocal (Astore 3)) refl refl refl (λ P pool. refl) (c.store_reference-in-78.ensures _ _ _)
-
-pub returns-in_default : goal.returns-in_default
-returns-in_default c = c.arithmetic.ensures

@@ -1,4 +1,4 @@
-use mathlib.Core.Path.{sym, ◌∙◌}
+use Rattle.std.proofs.Common.{sym, ◌∙◌}
 use Rattle.rules.specs.GroupLaws.{int_via}
 use Rattle.kit.specs.Bools.{not_so}
 use Rattle.verifier.proofs.quick.two_ints.Goals as goal

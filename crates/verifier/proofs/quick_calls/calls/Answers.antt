@@ -1,5 +1,3 @@
-use mathlib.Core.Path.{refl}
-use Rattle.verifier.specs.Quick.{tried_none}
 use Rattle.verifier.specs.QuickCalls.{tried_virtual, tried_static}
 use Rattle.verifier.proofs.quick_calls.calls.Goals as goal
 
@@ -8,6 +6,3 @@ returns-in-182 c = tried_virtual _ _ _ _ _ _ _ _ _ _ c.requires.0 c.requires.1 _
 
 pub returns-in-184 : goal.returns-in-184
 returns-in-184 c = tried_static _ _ _ _ _ _ _ _ _ _ c.requires.0 c.requires.1 _ c.requires.2 _ c.named_at-in-184.ensures c.in-184.is c.call_static.ensures
-
-pub returns-in_default : goal.returns-in_default
-returns-in_default c = tried_none _ _ _ _ _ _ _ _ refl

@@ -1,5 +1,4 @@
-use mathlib.Core.Path.{refl}
-use mathlib.Core.Bool.{true, false}
+use Rattle.std.proofs.Common.{refl, true, false}
 use Rattle.rules.specs.Opcodes.{rows, row_in, row_of}
 use Rattle.rules.specs.Decoding.{made}
 use Rattle.rules.specs.Known.{hides}

@@ -1,6 +1,5 @@
 use Rattle.verifier.specs.Starts.{filled_none, filled_more}
-use mathlib.Core.Path.{◌≡◌, refl, ◌∙◌}
-use native.Mathlib.Omega.{arith}
+use Rattle.std.proofs.Common.{◌≡◌, refl, ◌∙◌, arith}
 use Rattle.verifier.proofs.start.fill.Goals as goal
 
 pub loop-j-init : goal.loop-j-init
@@ -8,12 +7,6 @@ loop-j-init c = (refl, omega arith, filled_none _ _)
 
 pub overflow_add-j : goal.overflow_add-j
 overflow_add-j c = omega arith
-
-pub overflow_add-j-in-loop-j : goal.overflow_add-j-in-loop-j
-overflow_add-j-in-loop-j c = omega arith
-
-pub loop-j-smaller : goal.loop-j-smaller
-loop-j-smaller c = omega arith
 
 pub loop-j-preserved : goal.loop-j-preserved
 loop-j-preserved c = (c.put_word.auto.s ∙ c.loop-j.invariant.0, omega arith, filled_more _ _ _ _ c.loop-j.invariant.2 c.requires.0 c.requires.1 _ _ c.local_type-w.ensures c.put_word.ensures (omega arith) (omega arith))

@@ -1,5 +1,5 @@
 use Rattle.verifier.specs.Starts.{started}
-use mathlib.Core.Path.{refl}
+use Rattle.std.proofs.Common.{refl}
 use Rattle.verifier.proofs.start.start.Goals as goal
 
 pub returns : goal.returns

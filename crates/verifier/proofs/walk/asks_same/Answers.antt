@@ -1,7 +1,4 @@
-use mathlib.Core.Path.{sym, ◌∙◌}
-use native.Mathlib.Omega.{arith}
-use borrow.Author.Rules.{rules}
-use mathlib.Core.Path.{ap}
+use Rattle.std.proofs.Common.{sym, ◌∙◌, arith, rules, ap}
 use Rattle.kit.specs.Bools.{not_so}
 use Rattle.verifier.specs.Quick.{steady}
 use Rattle.verifier.proofs.walk.asks_same.Goals as goal

@@ -1,6 +1,4 @@
-use Prim.Native.Nat.{◌-◌}
-use mathlib.Core.Path.{◌≡◌}
-use lib.ListN.{length}
+use Rattle.std.proofs.Common.{◌-◌, ◌≡◌, length}
 use Rattle.verifier.specs.Ahead.{Level}
 use Rattle.verifier.specs.Legs.{Stretching}
 use Rattle.verifier.proofs.walk.by_opcodes.Given as goal

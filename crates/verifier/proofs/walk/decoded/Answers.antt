@@ -1,7 +1,5 @@
-use mathlib.Core.Path.{ap}
-use mathlib.Core.Bool.{true}
-use native.Mathlib.Omega.{arith}
-use lib.ListN.{length}
+use Rattle.std.proofs.Common.{ap, length, arith}
+use Rattle.std.specs.Prelude.{true}
 use Rattle.texts.specs.Reading.{part}
 use Rattle.verifier.specs.Lineup.{code_short}
 use Rattle.verifier.specs.Legs.{leg_refused, leg_line}
@@ -11,20 +9,14 @@ pub overflow_cast-o : goal.overflow_cast-o
 unfolding part
 overflow_cast-o c = omega (arith, code_short c.args.s.now c.args.x c.requires.0.bounded, ap length c.requires.3, c.requires.4)
 
-pub one_line-r-requires : goal.one_line-r-requires
-one_line-r-requires c = (c.requires.0, c.requires.1, c.requires.2)
-
-pub shape_of-t-then-r-ne0 : goal.shape_of-t-then-r-ne0
-shape_of-t-then-r-ne0 c = c.one_line-r.auto.t
-
-pub returns-then-r-ne0 : goal.returns-then-r-ne0
-returns-then-r-ne0 c = leg_refused c.args.s.now c.args.t.now c.one_line-r.new.t c.args.x c.args.kin c.args.f true c.args.h c.args.o c.requires.0 _ c.requires.3 c.requires.4 c.one_line-r.result c.one_line-r.ensures _ c.if-r-ne0.true
+pub one_line-requires : goal.one_line-requires
+one_line-requires c = (c.requires.0, c.requires.1, c.requires.2)
 
 pub next-requires : goal.next-requires
 next-requires c = c.requires.4
 
-pub shape_of-t : goal.shape_of-t
-shape_of-t c = c.one_line-r.auto.t
+pub returns-in-Ok : goal.returns-in-Ok
+returns-in-Ok c = leg_line c.args.s.now c.args.t.now c.one_line.new.t c.args.x c.args.kin c.args.f true c.args.h c.args.o c.requires.0 _ c.requires.3 c.requires.4 c.in-Ok.turn c.in-Ok.ensures _ c.next.ensures
 
-pub returns : goal.returns
-returns c = leg_line c.args.s.now c.args.t.now c.one_line-r.new.t c.args.x c.args.kin c.args.f true c.args.h c.args.o c.requires.0 _ c.requires.3 c.requires.4 c.one_line-r.result c.one_line-r.ensures c.if-r-ne0.false _ c.next.ensures
+pub returns-in-Err : goal.returns-in-Err
+returns-in-Err c = leg_refused c.args.s.now c.args.t.now c.one_line.new.t c.args.x c.args.kin c.args.f true c.args.h c.args.o c.requires.0 _ c.requires.3 c.requires.4 c.in-Err.refusal c.in-Err.ensures

@@ -5,4 +5,4 @@ pub returns-then-live : goal.returns-then-live
 returns-then-live c = ended_live _ _ c.if-live.true
 
 pub returns : goal.returns
-returns c = ended_none _ _ _ c.if-live.false
+returns c = ended_none _ _ c.if-live.false

@@ -1,19 +1,24 @@
-use Rattle.rules.specs.Loads.{not_there, is_there, meet_none, meet_fit, meet_new, merge_none, merge_frame, going_loaded}
+use Rattle.std.proofs.Common.{sym, ◌∙◌}
+use Rattle.kit.specs.Claims.{pass, handed}
+use Rattle.texts.specs.Faults.{number}
+use Rattle.rules.specs.Loads.{meet_none, meet_fit, meet_new, merge_none, merge_frame, going_loaded}
 use Rattle.rules.specs.StepClaims.{going_same}
 use Rattle.rules.specs.Slots.{held}
 use Rattle.rules.specs.SlotLaws.{outside_none}
-use Rattle.kit.specs.Claims.{is}
-use mathlib.Core.Path.{sym, ap, ◌∙◌}
+use Rattle.verifier.specs.Lineup.{IfOk-never}
 use Rattle.verifier.proofs.walk.enter.Goals as goal
 
-pub returns-then-not-p : goal.returns-then-not-p
-returns-then-not-p c = record { says = meet_none _ c.args.live (held c.args.t.now c.args.h) _ _ (not_there c.args.t.now c.find-p.result _ c.find-p.ensures.0 c.if-not-p.true) c.must.ensures; leaves = (λ z. merge_none c.args.live (held c.args.t.now c.args.h) _ _ (not_there c.args.t.now c.find-p.result _ c.find-p.ensures.0 c.if-not-p.true) c.must.ensures z); keeps = (going_same _ c.requires.1, outside_none _ _) }
+pub returns-in_err-must : goal.returns-in_err-must
+returns-in_err-must c = record { says = meet_none _ c.args.live (held c.args.t.now c.args.h) _ _ (sym c.in_default.ensures.is) (handed number _ _ c.from_residual.ensures.1 ∙ c.in_err-must.ensures); leaves = IfOk-never _ _ _ c.from_residual.ensures.1; keeps = (IfOk-never _ _ _ c.from_residual.ensures.1, outside_none _ _) }
 
-pub returns-then-a-ne0 : goal.returns-then-a-ne0
-returns-then-a-ne0 c = record { says = meet_fit _ _ _ _ _ (is_there c.args.t.now c.find-p.result _ c.find-p.ensures.0 c.if-not-p.false) c.if-live.true _ c.fit_states-a.ensures; leaves = (λ z. absurd (c.if-a-ne0.true z)); keeps = (going_same _ c.requires.1, outside_none _ _) }
+pub returns-in_default : goal.returns-in_default
+returns-in_default c = record { says = meet_none _ c.args.live (held c.args.t.now c.args.h) _ pass (sym c.in_default.ensures.is) c.in_ok-must.ensures; leaves = merge_none c.args.live (held c.args.t.now c.args.h) _ (sym c.in_default.ensures.is) c.in_ok-must.ensures; keeps = (going_same _ c.requires.1, outside_none _ _) }
+
+pub returns-in_err-fit_states : goal.returns-in_err-fit_states
+returns-in_err-fit_states c = record { says = meet_fit _ _ _ _ _ (sym c.in-Some.ensures.is) c.if-live.true _ (handed number _ _ c.from_residual-in_err-fit_states.ensures.1 ∙ c.in_err-fit_states.ensures); leaves = IfOk-never _ _ _ c.from_residual-in_err-fit_states.ensures.1; keeps = (IfOk-never _ _ _ c.from_residual-in_err-fit_states.ensures.1, outside_none _ _) }
 
 pub returns-then-live : goal.returns-then-live
-returns-then-live c = record { says = meet_fit _ _ _ _ _ (is_there c.args.t.now c.find-p.result _ c.find-p.ensures.0 c.if-not-p.false) c.if-live.true _ (ap is (sym c.if-a-ne0.false) ∙ c.fit_states-a.ensures); leaves = (λ z. merge_frame c.args.live (held c.args.t.now c.args.h) _ _ _ (is_there c.args.t.now c.find-p.result _ c.find-p.ensures.0 c.if-not-p.false) c.load-r.ensures.0); keeps = (going_loaded _ _ _ c.load-r.ensures.1 (c.find-p.ensures.2.locals ∙ c.requires.3) c.find-p.ensures.1.depth, c.load-r.ensures.2) }
+returns-then-live c = record { says = meet_fit _ _ _ _ _ (sym c.in-Some.ensures.is) c.if-live.true pass c.in_ok-fit_states.ensures; leaves = merge_frame c.args.live (held c.args.t.now c.args.h) _ _ _ (sym c.in-Some.ensures.is) c.load.ensures.0; keeps = (going_loaded _ _ _ c.load.ensures.1 (c.in-Some.ensures.lies.1.locals ∙ c.requires.3) c.in-Some.ensures.lies.0.depth, c.load.ensures.2) }
 
 pub returns : goal.returns
-returns c = record { says = meet_new _ _ _ _ _ (is_there c.args.t.now c.find-p.result _ c.find-p.ensures.0 c.if-not-p.false) c.if-live.false; leaves = (λ z. merge_frame c.args.live (held c.args.t.now c.args.h) _ _ _ (is_there c.args.t.now c.find-p.result _ c.find-p.ensures.0 c.if-not-p.false) c.load-r-2.ensures.0); keeps = (going_loaded _ _ _ c.load-r-2.ensures.1 (c.find-p.ensures.2.locals ∙ c.requires.3) c.find-p.ensures.1.depth, c.load-r-2.ensures.2) }
+returns c = record { says = meet_new _ _ _ _ _ (sym c.in-Some.ensures.is) c.if-live.false; leaves = merge_frame c.args.live (held c.args.t.now c.args.h) _ _ _ (sym c.in-Some.ensures.is) c.load-2.ensures.0; keeps = (going_loaded _ _ _ c.load-2.ensures.1 (c.in-Some.ensures.lies.1.locals ∙ c.requires.3) c.in-Some.ensures.lies.0.depth, c.load-2.ensures.2) }

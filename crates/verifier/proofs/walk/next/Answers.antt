@@ -1,5 +1,4 @@
-use native.Mathlib.Omega.{arith}
-use borrow.Author.Rules.{rules}
+use Rattle.std.proofs.Common.{arith, rules}
 use Rattle.verifier.specs.Walks.{next_end, next_more}
 use Rattle.verifier.proofs.walk.next.Goals as goal
 

@@ -1,11 +1,9 @@
-use mathlib.Core.Path.{refl, ◌∙◌}
-use native.Mathlib.Omega.{arith}
-use borrow.Author.Rules.{rules}
+use Rattle.std.proofs.Common.{refl, ◌∙◌, arith, rules}
 use Rattle.texts.specs.Reading.{part}
 use Rattle.verifier.specs.Lineup.{walking_at}
 use Rattle.verifier.specs.Ahead.{beyond_start, beyond_on, quiet_start, quiet_on}
 use Rattle.verifier.specs.Walks.{mid_start, mid_out, place}
-use Rattle.verifier.specs.Legs.{leg_as, leg_on}
+use Rattle.verifier.specs.Legs.{leg_as, leg_on, leg_off}
 use Rattle.verifier.proofs.walk.over_lines.Goals as goal
 
 pub slice_bounds-code-count : goal.slice_bounds-code-count
@@ -26,21 +24,21 @@ scout-z-requires c = (c.requires.bounded, (walking_at _ _ _ _ _ _ c.requires c.l
 pub placed-g-requires : goal.placed-g-requires
 placed-g-requires c = search (rules, arith)
 
-pub leg_from-r-requires : goal.leg_from-r-requires
+pub leg_from-requires : goal.leg_from-requires
 unfolding part
-leg_from-r-requires c = ((walking_at _ _ _ _ _ _ c.requires c.loop-o.t c.loop-o.depth c.loop-o.flag _ c.placed-g.ensures c.loop-o.invariant.1 c.loop-o.invariant.2.front c.loop-o.invariant.0), refl, c.loop-o-test.true, c.scout-z.ensures)
+leg_from-requires c = ((walking_at _ _ _ _ _ _ c.requires c.loop-o.t c.loop-o.depth c.loop-o.flag _ c.placed-g.ensures c.loop-o.invariant.1 c.loop-o.invariant.2.front c.loop-o.invariant.0), refl, c.loop-o-test.true, c.scout-z.ensures)
 
-pub shape_of-t-then-number-ne0 : goal.shape_of-t-then-number-ne0
-shape_of-t-then-number-ne0 c = c.leg_from-r.auto.t ∙ c.loop-o.invariant.0
+pub shape_of-t-in_err-r : goal.shape_of-t-in_err-r
+shape_of-t-in_err-r c = c.leg_from.auto.t ∙ c.loop-o.invariant.0
 
-pub returns-then-number-ne0 : goal.returns-then-number-ne0
-returns-then-number-ne0 c = (leg_as _ _ _ _ _ _ (place c.args.h c.loop-o.depth c.loop-o.flag) _ c.placed-g.ensures _ _ c.leg_from-r.ensures).stops c.if-number-ne0.true _ _ c.loop-o.invariant.2 _ refl
+pub returns-in_err-r : goal.returns-in_err-r
+returns-in_err-r c = leg_off _ _ _ _ _ _ _ _ _ (leg_as _ _ _ _ _ _ (place c.args.h c.loop-o.depth c.loop-o.flag) _ c.placed-g.ensures _ _ c.in_err-r.ensures) _ c.from_residual.ensures.1 _ _ c.loop-o.invariant.2
 
 pub loop-o-smaller : goal.loop-o-smaller
-loop-o-smaller c = omega (arith, (leg_as _ _ _ _ _ _ (place c.args.h c.loop-o.depth c.loop-o.flag) _ c.placed-g.ensures _ _ c.leg_from-r.ensures).far c.if-number-ne0.false)
+loop-o-smaller c = omega (arith, (leg_as _ _ _ _ _ _ (place c.args.h c.loop-o.depth c.loop-o.flag) _ c.placed-g.ensures _ _ c.in_ok-r.ensures).far)
 
 pub loop-o-preserved : goal.loop-o-preserved
-loop-o-preserved c = (c.leg_from-r.auto.t ∙ c.loop-o.invariant.0, c.leg_from-r.ensures.going.depth, leg_on _ _ _ _ _ _ _ _ _ (leg_as _ _ _ _ _ _ (place c.args.h c.loop-o.depth c.loop-o.flag) _ c.placed-g.ensures _ _ c.leg_from-r.ensures) c.if-number-ne0.false _ _ c.loop-o.invariant.2, beyond_on _ _ _ _ _ _ c.leg_from-r.ensures.front c.requires.rows c.scout-z.ensures.beyond (omega (arith, (leg_as _ _ _ _ _ _ (place c.args.h c.loop-o.depth c.loop-o.flag) _ c.placed-g.ensures _ _ c.leg_from-r.ensures).far c.if-number-ne0.false)), quiet_on _ _ _ _ _ _ c.scout-z.ensures.quiet (omega (arith, (leg_as _ _ _ _ _ _ (place c.args.h c.loop-o.depth c.loop-o.flag) _ c.placed-g.ensures _ _ c.leg_from-r.ensures).far c.if-number-ne0.false)) (omega arith))
+loop-o-preserved c = (c.leg_from.auto.t ∙ c.loop-o.invariant.0, c.in_ok-r.ensures.going.depth, leg_on _ _ _ _ _ _ _ _ _ (leg_as _ _ _ _ _ _ (place c.args.h c.loop-o.depth c.loop-o.flag) _ c.placed-g.ensures _ _ c.in_ok-r.ensures) _ _ c.loop-o.invariant.2, beyond_on _ _ _ _ _ _ c.in_ok-r.ensures.front c.requires.rows c.scout-z.ensures.beyond (omega (arith, (leg_as _ _ _ _ _ _ (place c.args.h c.loop-o.depth c.loop-o.flag) _ c.placed-g.ensures _ _ c.in_ok-r.ensures).far)), quiet_on _ _ _ _ _ _ c.scout-z.ensures.quiet (omega (arith, (leg_as _ _ _ _ _ _ (place c.args.h c.loop-o.depth c.loop-o.flag) _ c.placed-g.ensures _ _ c.in_ok-r.ensures).far)) (omega arith))
 
 pub ended-requires : goal.ended-requires
 ended-requires c = search (rules, arith)

@@ -1,6 +1,4 @@
-use mathlib.Core.Path.{◌≡◌}
-use lib.ListN.{length}
-use Prim.Native.Nat.{◌-◌, ◌≤◌}
+use Rattle.std.proofs.Common.{◌≡◌, length, ◌-◌, ◌≤◌}
 use Rattle.verifier.specs.Ahead.{Beyond, Quiet}
 use Rattle.verifier.specs.Walks.{Midway, place}
 use Rattle.verifier.proofs.walk.over_lines.Given as goal

@@ -1,4 +1,4 @@
-use mathlib.Core.Path.{refl}
+use Rattle.std.proofs.Common.{refl}
 use Rattle.verifier.proofs.walk.stopped.Goals as goal
 
 pub returns : goal.returns

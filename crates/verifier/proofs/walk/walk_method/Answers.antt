@@ -1,5 +1,5 @@
 use Rattle.verifier.specs.MethodWalks.{walking_start, method-walked}
-use mathlib.Core.Path.{refl}
+use Rattle.std.proofs.Common.{refl}
 use Rattle.verifier.proofs.walk.walk_method.Goals as goal
 
 pub over_lines-requires : goal.over_lines-requires

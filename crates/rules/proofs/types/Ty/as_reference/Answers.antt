@@ -1,6 +1,5 @@
 use Rattle.rules.specs.Forms.{reference_array, reference_class}
-use native.Mathlib.Omega.{arith}
-use borrow.Author.Rules.{rules}
+use Rattle.std.proofs.Common.{arith, rules}
 use Rattle.rules.proofs.types.Ty.as_reference.Goals as goal
 
 pub returns-then-self-eq-ARRAY : goal.returns-then-self-eq-ARRAY

@@ -1,6 +1,5 @@
 use Rattle.rules.specs.TypeLaws.{element-null, element_none}
-use mathlib.Core.Path.{◌∙◌}
-use borrow.Author.Rules.{rules}
+use Rattle.std.proofs.Common.{◌∙◌, rules}
 use Rattle.rules.proofs.types.Ty.element.Goals as goal
 
 pub returns-then-k-eq-NULL : goal.returns-then-k-eq-NULL

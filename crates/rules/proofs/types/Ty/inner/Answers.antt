@@ -1,7 +1,5 @@
 use Rattle.rules.specs.TypeLaws.{element_array, element-int, element-class}
-use native.Mathlib.Omega.{arith}
-use mathlib.Core.Path.{◌∙◌}
-use borrow.Author.Rules.{rules}
+use Rattle.std.proofs.Common.{arith, ◌∙◌, rules}
 use Rattle.rules.proofs.types.Ty.inner.Goals as goal
 
 pub returns-then-self-gt0 : goal.returns-then-self-gt0

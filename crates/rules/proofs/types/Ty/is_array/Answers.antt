@@ -1,5 +1,5 @@
 use Rattle.kit.specs.Pick.{if_eq, if_ne}
-use mathlib.Core.Path.{refl, ◌∙◌}
+use Rattle.std.proofs.Common.{refl, ◌∙◌}
 use Rattle.rules.specs.TypeLaws.{array_kind}
 use Rattle.rules.proofs.types.Ty.is_array.Goals as goal
 

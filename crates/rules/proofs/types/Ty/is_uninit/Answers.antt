@@ -1,6 +1,5 @@
-use borrow.Author.Rules.{rules}
+use Rattle.std.proofs.Common.{rules, arith}
 use Rattle.rules.specs.TypeLaws.{uninit_not, uninit_same, uninit_other, uninit-this}
-use native.Mathlib.Omega.{arith}
 use Rattle.rules.proofs.types.Ty.is_uninit.Goals as goal
 
 pub returns-then-self-lt-UNINIT : goal.returns-then-self-lt-UNINIT

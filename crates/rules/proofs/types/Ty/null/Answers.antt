@@ -1,5 +1,5 @@
 use Rattle.rules.specs.TypeLaws.{type-null}
-use native.Mathlib.Omega.{arith}
+use Rattle.std.proofs.Common.{arith}
 use Rattle.rules.proofs.types.Ty.null.Goals as goal
 
 pub returns : goal.returns

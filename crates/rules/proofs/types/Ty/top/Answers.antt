@@ -1,5 +1,5 @@
 use Rattle.rules.specs.TypeLaws.{type-top}
-use native.Mathlib.Omega.{arith}
+use Rattle.std.proofs.Common.{arith}
 use Rattle.rules.proofs.types.Ty.top.Goals as goal
 
 pub returns : goal.returns

@@ -1,8 +1,0 @@
-use Prim.Native.Nat.{ℕ}
-use mathlib.Core.List.{List}
-use mathlib.Core.Path.{ap, ◌∙◌}
-use Rattle.classfiles.specs.Shapes.{method_shape}
-use Rattle.classfiles.proofs.members.method_type_at.Goals as goal
-
-pub returns : goal.returns
-returns c = c.method_type.ensures ∙ ap (λ (x : List ℕ). method_shape x c.args.p) c.text_of-x.ensures.is

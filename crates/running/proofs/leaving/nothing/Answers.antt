@@ -1,5 +1,0 @@
-use mathlib.Core.Path.{refl}
-use Rattle.running.proofs.leaving.nothing.Goals as goal
-
-pub returns : goal.returns
-returns c = refl
