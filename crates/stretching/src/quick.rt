@@ -9,7 +9,8 @@ use plain::window::{Halt, Place, Turn};
 use plain::{forms, groups, memory};
 use rules::decode;
 use rules::decode::Bytes;
-use rules::instruction::{Division, Instr, Op, Test};
+use rules::instruction::Test::{Eq, Ge, Gt, Le, Lt, Ne};
+use rules::instruction::{Division, Instr, Op};
 use rules::opcodes::size_at;
 use rules::types::Kin;
 
@@ -70,7 +71,7 @@ fn bytes(code: &[u8], at: u32) -> Bytes
 }
 
 // Where the branch leads.
-fn leads_to(code: &[u8], at: u32) -> u16
+fn goes_to(code: &[u8], at: u32) -> u16
     ensures { result ≡ (at + (get_or code.now (at + 1) 0 * 256 + get_or code.now (at + 2) 0)) % 2 ^ 16 }
 {
     decode::target(bytes(code, at))
@@ -308,91 +309,19 @@ fn branches(
     ensures { Quick b.now t.now code.now y at operands used w.old g.old cells.old w.new g.new cells.new result }
 {
     match op {
-        0x99 => forms::if_int(
-            w,
-            g,
-            place(y, at, operands, used, 3),
-            Test::Eq,
-            leads_to(code, at),
-        ),
-        0x9a => forms::if_int(
-            w,
-            g,
-            place(y, at, operands, used, 3),
-            Test::Ne,
-            leads_to(code, at),
-        ),
-        0x9b => forms::if_int(
-            w,
-            g,
-            place(y, at, operands, used, 3),
-            Test::Lt,
-            leads_to(code, at),
-        ),
-        0x9c => forms::if_int(
-            w,
-            g,
-            place(y, at, operands, used, 3),
-            Test::Ge,
-            leads_to(code, at),
-        ),
-        0x9d => forms::if_int(
-            w,
-            g,
-            place(y, at, operands, used, 3),
-            Test::Gt,
-            leads_to(code, at),
-        ),
-        0x9e => forms::if_int(
-            w,
-            g,
-            place(y, at, operands, used, 3),
-            Test::Le,
-            leads_to(code, at),
-        ),
-        0x9f => forms::if_two(
-            w,
-            g,
-            place(y, at, operands, used, 3),
-            Test::Eq,
-            leads_to(code, at),
-        ),
-        0xa0 => forms::if_two(
-            w,
-            g,
-            place(y, at, operands, used, 3),
-            Test::Ne,
-            leads_to(code, at),
-        ),
-        0xa1 => forms::if_two(
-            w,
-            g,
-            place(y, at, operands, used, 3),
-            Test::Lt,
-            leads_to(code, at),
-        ),
-        0xa2 => forms::if_two(
-            w,
-            g,
-            place(y, at, operands, used, 3),
-            Test::Ge,
-            leads_to(code, at),
-        ),
-        0xa3 => forms::if_two(
-            w,
-            g,
-            place(y, at, operands, used, 3),
-            Test::Gt,
-            leads_to(code, at),
-        ),
-        0xa4 => forms::if_two(
-            w,
-            g,
-            place(y, at, operands, used, 3),
-            Test::Le,
-            leads_to(code, at),
-        ),
-        0xa7 => forms::jump(w, g, place(y, at, operands, used, 3), leads_to(code, at)),
+        0x99 => forms::if_int(w, g, place(y, at, operands, used, 3), Eq, goes_to(code, at)),
+        0x9a => forms::if_int(w, g, place(y, at, operands, used, 3), Ne, goes_to(code, at)),
+        0x9b => forms::if_int(w, g, place(y, at, operands, used, 3), Lt, goes_to(code, at)),
+        0x9c => forms::if_int(w, g, place(y, at, operands, used, 3), Ge, goes_to(code, at)),
+        0x9d => forms::if_int(w, g, place(y, at, operands, used, 3), Gt, goes_to(code, at)),
+        0x9e => forms::if_int(w, g, place(y, at, operands, used, 3), Le, goes_to(code, at)),
+        0x9f => forms::if_two(w, g, place(y, at, operands, used, 3), Eq, goes_to(code, at)),
+        0xa0 => forms::if_two(w, g, place(y, at, operands, used, 3), Ne, goes_to(code, at)),
+        0xa1 => forms::if_two(w, g, place(y, at, operands, used, 3), Lt, goes_to(code, at)),
+        0xa2 => forms::if_two(w, g, place(y, at, operands, used, 3), Ge, goes_to(code, at)),
+        0xa3 => forms::if_two(w, g, place(y, at, operands, used, 3), Gt, goes_to(code, at)),
+        0xa4 => forms::if_two(w, g, place(y, at, operands, used, 3), Le, goes_to(code, at)),
+        0xa7 => forms::jump(w, g, place(y, at, operands, used, 3), goes_to(code, at)),
         _ => others(b, t, code, cells, w, g, y, at, operands, used, op),
     }
 }
