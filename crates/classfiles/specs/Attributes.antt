@@ -1,6 +1,6 @@
 -- Attributes, bodies and members as the code keeps them: how often something stands (2 for more than once) and where. Assumes nothing.
 use Rattle.std.specs.Prelude.{◌≡◌, Bool, ltb, leb, eqb}
-use Rattle.std.proofs.Common.{sym, ◌∙◌, ℕ, zero, suc, ◌+◌, ◌*◌, ◌≤◌, refl, ap, subst, List, [], ◌∷◌, true, false, cond, arith, ltb-false}
+use Rattle.std.proofs.Common.{sym, ◌∙◌, ℕ, zero, suc, ◌+◌, ◌*◌, ◌≤◌, refl, ap, subst, List, [], ◌∷◌, true, false, cond, arith, ne_eqb, ltb-false}
 use Rattle.kit.specs.Lists.{eq_list}
 use Rattle.classfiles.specs.Limits.{max_stack_limit, max_locals_limit, max_code, max_table_entries}
 use Rattle.texts.specs.Reading.{Res, ok, bad, and_then, pre, many, u2_at, u4_at, num2_at, num4_at, skip_at, short_at, part}
@@ -8,7 +8,7 @@ use Rattle.texts.specs.Answers.{same_bad}
 use Rattle.texts.specs.Ends.{Holds, holds_of, then-holds, cond-holds, IsU2, num2_holds, skip_holds}
 use Rattle.texts.specs.Names.{StackMapTable}
 use Rattle.classfiles.specs.Pool.{Constant, text}
-use Rattle.classfiles.specs.Members.{Found, none, once, twice, Handler, Body, Member, inners_at, code_at, handler_at, table_at, body_at}
+use Rattle.classfiles.specs.Members.{Found, none, once, twice, another, Handler, Body, Member, inners_at, code_at, handler_at, table_at, body_at}
 
 -- ---- what is kept, read back
 unfoldable pub found_of : {A : Type 0} → ℕ → A → Found A
@@ -190,3 +190,32 @@ short_most s e n p most q =
 pub short_val : (s : List ℕ) (e n p most q v a : ℕ) → ok v a ≡ short_at s e n p most q → (v ≤ most) × (a ≤ e)
 short_val s e n p most q v a h =
     holds_of (λ v z. (v ≤ most) × (z ≤ e)) (short_at s e n p most q) v a (short_most s e n p most q) (sym h)
+
+-- one more: another one is more
+module _ {A : Type 0} (k : ℕ) (v : A) (j : ℕ) (w : A) where
+  pub not_another : j ≡ 0 → another (found_of k v) (found_of j w) ≡ found_of k v
+  unfolding another found_of
+  not_another e = rw e
+
+  pub first_one : k ≡ 0 → another (found_of k v) (found_of j w) ≡ found_of j w
+  unfolding another found_of
+  first_one e = rw e (by (eqb j 0) (eqb j 1))
+    where
+      by : (x y : Bool) → another none (cond x none (cond y (once w) twice)) ≡ cond x none (cond y (once w) twice)
+      by true y = refl
+      by false true = refl
+      by false false = refl
+
+  pub one_more : (k ≡ 0 → ⊥) → (j ≡ 0 → ⊥) → another (found_of k v) (found_of j w) ≡ found_of 2 v
+  unfolding another found_of
+  one_more f g = rw (ne_eqb k 0 f, ne_eqb j 0 g) (by (eqb k 1) (eqb j 1))
+    where
+      by : (x y : Bool) → another (cond x (once v) twice) (cond y (once w) twice) ≡ twice
+      by true true = refl
+      by true false = refl
+      by false true = refl
+      by false false = refl
+
+pub found_none : {A : Type 0} (k : ℕ) (v : A) → k ≡ 0 → found_of k v ≡ none
+unfolding found_of
+found_none k v e = rw e

@@ -1,11 +1,11 @@
 -- Laws of what stands before a class's members, as the code reads it. Assumes nothing.
-use Rattle.std.specs.Prelude.{ℕ, ◌+◌, ◌*◌, ◌^◌, ◌<◌, ◌≤◌, ◌≡◌, List, Result, Ok, IsErrAnd, IfOk, length, take, eqb}
+use Rattle.std.specs.Prelude.{ℕ, ◌+◌, ◌-◌, ◌*◌, ◌^◌, ◌<◌, ◌≤◌, ◌≡◌, refl, List, Result, Ok, Err, IsErrAnd, IfOk, length, take, drop, eqb}
 use Rattle.std.proofs.Common.{sym, ap, ◌∙◌, arith, eq-eqb, ne_eqb}
 use Rattle.kit.specs.Words.{word}
 use Rattle.kit.specs.Pick.{if_eq, if_ne}
-use Rattle.texts.specs.Reading.{ok, bad, u2_at, u2}
+use Rattle.texts.specs.Reading.{Res, ok, bad, and_then, u2_at, u2}
 use Rattle.texts.specs.Faults.{number}
-use Rattle.texts.specs.Answers.{res_as, t_ok, t_bad, same_ok}
+use Rattle.texts.specs.Answers.{res, res_as, t_ok, t_bad, same_ok}
 use Rattle.texts.specs.Ends.{Holds, holds_of, then-holds, cond-holds, Ends, ends_of, then_ends, IsU2, u2-holds, u2_val}
 use Rattle.texts.specs.Names.{Text}
 use Rattle.texts.specs.declared.faults.Got.{Got}
@@ -17,6 +17,12 @@ use Rattle.classfiles.specs.Table.{pool_in}
 use Rattle.classfiles.specs.Bundle.{named, class_access_at, this_at, super_at, interfaces_at}
 use Rattle.classfiles.specs.Blocks.{block_size, put3, start_word, pool_word, this_word, pool_of, super_in, names_in, Head, head, start_at, open_at, names_at, head_at}
 use Rattle.classfiles.specs.BlockWords.{put3_0, put3_1, put3_2, take-put3}
+
+-- the last part's answer, handed on with the value that the whole stands for
+pub as_value : {T A B : Type 0} (x : Res A) (g : A → B) (r : Result (Got T) Fault) (u : T → A) (v : T → B) → res_as u r ≡ x → IfOk r (λ z. v z.val ≡ g (u z.val))
+    → res_as v r ≡ and_then x (λ j e. ok (g j) e)
+as_value x g (Ok z) u v h k = t_ok _ x _ (u z.val) z.at h (same_ok _ _ z.at k)
+as_value x g (Err f) u v h k = t_bad _ x _ (number f.0) f.1 h refl
 
 -- this_class and super_class, whose number i the code has read up to a
 module _ (s : List ℕ) (pool : List Constant) (q i a : ℕ) (hi : ok i a ≡ u2 s q) where
@@ -40,6 +46,19 @@ module _ (s : List ℕ) (pool : List Constant) (q i a : ℕ) (hi : ok i a ≡ u2
         t_ok _ _ _ i a hi (if_ne _ _ _ i 0 n (t_ok _ _ _ j e hj
         (same_ok _ _ e (rw (ne_eqb (u2_at s q) 0 (λ z. n ((u2_val s q i a hi).0 ∙ z))) (ap named named_as)))))
 
+  pub this_value : (r : Result (Got ℕ) Fault) → res r ≡ class_index_at s pool q i a
+      → res_as (λ j. class_text pool (u2_at s q)) r ≡ and_then (class_index_at s pool q i a) (λ j e. ok (class_text pool j) e)
+  this_value (Ok z) h = as_value _ (class_text pool) (Ok z) (λ j. j) (λ j. class_text pool (u2_at s q)) h (named_as z.val z.at h)
+  this_value (Err f) h = as_value _ (class_text pool) (Err f) (λ j. j) (λ j. class_text pool (u2_at s q)) h tt
+
+  pub super_value : (i ≡ 0 → ⊥) → (r : Result (Got ℕ) Fault) → res r ≡ class_index_at s pool q i a
+      → res_as (λ j. super_in s pool q) r ≡ and_then (class_index_at s pool q i a) (λ j e. ok (named (class_text pool j)) e)
+  unfolding super_in
+  super_value n (Ok z) h =
+      let k : super_in s pool q ≡ named (class_text pool z.val) = rw (ne_eqb (u2_at s q) 0 (λ e. n ((u2_val s q i a hi).0 ∙ e))) (ap named (named_as z.val z.at h)) in
+      as_value _ (λ j. named (class_text pool j)) (Ok z) (λ j. j) (λ j. super_in s pool q) h k
+  super_value n (Err f) h = as_value _ (λ j. named (class_text pool j)) (Err f) (λ j. j) (λ j. super_in s pool q) h tt
+
 -- ---- where they end
 abbrev Two : {A : Type 0} → List ℕ → ℕ → A → ℕ → Type 0
 Two s q v e = (e ≡ q + 2) × (e ≤ length s)
@@ -51,7 +70,7 @@ module _ (s : List ℕ) (q : ℕ) where
       then-holds (IsU2 s (length s) q) (Two s q) (u2 s q) _ (u2-holds s q)
       (λ v a h. cond-holds (Two s q) (eqb v 32) _ _ (h.1, h.2) (cond-holds (Two s q) (eqb v 33) _ _ (h.1, h.2) tt))
 
-  access_end : (v a : ℕ) → ok v a ≡ class_access_at s q → a ≡ q + 2
+  pub access_end : (v a : ℕ) → ok v a ≡ class_access_at s q → a ≡ q + 2
   access_end v a h = (holds_of (Two s q) (class_access_at s q) v a access_two (sym h)).0
 
 module _ (s : List ℕ) (pool : List Constant) (q : ℕ) where
@@ -66,10 +85,10 @@ module _ (s : List ℕ) (pool : List Constant) (q : ℕ) where
       then-holds (IsU2 s (length s) q) (Two s q) (u2 s q) _ (u2-holds s q)
       (λ i a h. then-holds (Two s q) (Two s q) (class_index_at s pool q i a) _ (index_two i a h) (λ j e k. k))
 
-  this_end : (v : Text) (a : ℕ) → ok v a ≡ this_at s pool q → a ≡ q + 2
+  pub this_end : (v : Text) (a : ℕ) → ok v a ≡ this_at s pool q → a ≡ q + 2
   this_end v a h = (holds_of (Two s q) (this_at s pool q) v a this_two (sym h)).0
 
-  names_as : (d e : ℕ) → d ≡ q + 2 → e ≡ d + 2 → names_in s pool (q + 2) ≡ record { name = class_text pool (u2_at s d); super = super_in s pool e }
+  pub names_as : (d e : ℕ) → d ≡ q + 2 → e ≡ d + 2 → names_in s pool (q + 2) ≡ record { name = class_text pool (u2_at s d); super = super_in s pool e }
   names_as d e x y = rw (y, x)
 
 -- the names, part for part
@@ -102,6 +121,10 @@ headed_bad s q r b f p h = record { is = res_err f (λ n. head_of s b) r p ∙ h
 pub opening_bad : (s : List ℕ) (q n p : ℕ) → bad n p ≡ open_at s q → bad n p ≡ head_at s q
 unfolding head_at
 opening_bad s q n p h = t_bad _ _ _ n p h cc
+
+-- the part of the block that the tags are lent as
+pub part-front : (n : ℕ) (b : List ℕ) → take (4 * n - 0) (drop 0 b) ≡ take (4 * n) b
+part-front n b = let z : 4 * n - 0 ≡ 4 * n = omega arith in ap (λ (m : ℕ). take m b) z
 
 open_ends : (s : List ℕ) (q : ℕ) → Ends (length s) (open_at s q)
 unfolding open_at

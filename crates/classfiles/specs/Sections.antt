@@ -17,7 +17,7 @@ use Rattle.classfiles.specs.Attributes.{found_of, body_of, member_of, short_val}
 use Rattle.classfiles.specs.Bundle.{members_at}
 use Rattle.classfiles.specs.Contents.{content_in, code_in}
 use Rattle.classfiles.specs.Blocks.{listed, put3, row_in, rows_in}
-use Rattle.classfiles.specs.BlockWords.{put3_0, put3_1, put3_2, take-put3, take_put, kept_word, kept_take, rows_next}
+use Rattle.classfiles.specs.BlockWords.{put3_0, put3_1, put3_2, take-put3, length-put3, take_put, kept_word, kept_take, rows_next}
 use Rattle.classfiles.specs.declared.members.Found.{Found}
 use Rattle.classfiles.specs.declared.members.Found.TheVariants.{None, Once, Twice}
 use Rattle.classfiles.specs.declared.members.Part.{Part}
@@ -73,25 +73,33 @@ module _ (b d c : List ℕ) (w q : ℕ) (k : Found Code) (n start : ℕ) (f : Fo
       let y : w + 5 ≡ w + 3 + 2 = omega arith in
       rw (x, y) (h.reads s)
 
-  row_put : IsRow b c w q k
+  row_is : IsRow b c w q k
   unfolding row_in
-  row_put = record {
+  row_is = record {
     below = kept_take (w + 3) d c h.below w (omega arith) ∙ (ap (take (4 * w)) e ∙ take-put3 b w q n start w (omega arith));
     row = λ s pool. rw (w0, w1, w2, reads s) (ap (member_of s pool q) (z s));
   }
 
+-- the row's six words: n and start are what v is kept as, k, from and len what f is
+pub row_put : (b d c : List ℕ) (w q n start k from len : ℕ) (v : Found Code) (f : Found Part) → 4 * (w + 6) ≤ length b → q < 2 ^ 32 → n < 2 ^ 32 → start < 2 ^ 32
+    → k < 2 ^ 32 → from < 2 ^ 32 → len < 2 ^ 32 → d ≡ put3 b w q n start → c ≡ put3 d (w + 3) k from len
+    → ((s : List ℕ) → found_of k (part s from len) ≡ content_in s f) → ((s : List ℕ) → found_of n (body_of s start (content_in s f)) ≡ code_in s v) → IsRow b c w q v
+row_put b d c w q n start k from len v f l b0 b1 b2 b3 b4 b5 e g hf hv =
+    let m : length d ≡ length b = ap length e ∙ length-put3 b w q n start in
+    row_is b d c w q v n start f l b0 b1 b2 e (content_put d c (w + 3) f k from len (omega (arith, m)) b3 b4 b5 g hf) hv
+
 module _ (b d c : List ℕ) (w q : ℕ) (k : Found Code) (l : 4 * (w + 6) ≤ length b) (b0 : q < 2 ^ 32) where
   pub row_none : k ≡ None → d ≡ put3 b w q 0 0 → IsContent d c (w + 3) None → IsRow b c w q k
   unfolding found_of
-  row_none x e h = row_put b d c w q k 0 0 None l b0 (omega arith) (omega arith) e h (λ s. rw x refl)
+  row_none x e h = row_is b d c w q k 0 0 None l b0 (omega arith) (omega arith) e h (λ s. rw x refl)
 
   pub row_once : (v : Code) → k ≡ Once v → v.start < 2 ^ 32 → d ≡ put3 b w q 1 v.start → IsContent d c (w + 3) v.frames → IsRow b c w q k
   unfolding found_of
-  row_once v x b2 e h = row_put b d c w q k 1 v.start v.frames l b0 (omega arith) b2 e h (λ s. rw x refl)
+  row_once v x b2 e h = row_is b d c w q k 1 v.start v.frames l b0 (omega arith) b2 e h (λ s. rw x refl)
 
   pub row_twice : k ≡ Twice → d ≡ put3 b w q 2 0 → IsContent d c (w + 3) None → IsRow b c w q k
   unfolding found_of
-  row_twice x e h = row_put b d c w q k 2 0 None l b0 (omega arith) (omega arith) e h (λ s. rw x refl)
+  row_twice x e h = row_is b d c w q k 2 0 None l b0 (omega arith) (omega arith) e h (λ s. rw x refl)
 
 -- ---- the loop over n members, of which i are in the block b: their pool's tags are the first k words
 module _ (s b₀ b : List ℕ) (k w : ℕ) (m : Bool) (q : ℕ) (l : k ≤ w) (f : take (4 * w) b ≡ take (4 * w) b₀) where
