@@ -91,6 +91,9 @@ pub seen-under : (d c at at' : ℕ) (b : Desc) → desc_of c ≡ nested d b → 
 unfolding seen
 seen-under d c at at' b e f = cc
 
+pub under_ok : (b : Got ℕ) (d : ℕ) → d < 8 → ok (desc_of (8 * b.val + d)) b.at ≡ seen (nested d) (res_as base_of (Ok b))
+under_ok b d l = seen-under d (8 * b.val + d) b.at b.at (base_of b.val) (desc_at b.val d l) refl
+
 pub seen-fault : (d n p : ℕ) → bad n p ≡ seen (nested d) (bad n p)
 unfolding seen
 seen-fault d n p = refl

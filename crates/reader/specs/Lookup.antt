@@ -80,7 +80,7 @@ module _ (s : List ℕ) (n : ℕ) (t : List ℕ) (m : n ≤ 16) where
   class_past c h = get_or-eq_default (program_of (files_in s n t)).classes no_class (rw class-count h)
 
   -- the code's answer for a class of the bundle, and past it
-  own_high : (method : Bool) (g : Signature) (c i k : ℕ) → 11 ≤ c → c < 11 + n → i ≡ index_of g (row_sigs s (block_at t (c - 11)) method) → k ≡ row_count (block_at t (c - 11)) method
+  pub own_high : (method : Bool) (g : Signature) (c i k : ℕ) → 11 ≤ c → c < 11 + n → i ≡ index_of g (row_sigs s (block_at t (c - 11)) method) → k ≡ row_count (block_at t (c - 11)) method
       → cond (ltb i k) (spot c i) nowhere ≡ own_spot (program_of (files_in s n t)) (sigs_of method) g c
   unfolding own_spot
   own_high method g c i k l h ei ek =

@@ -1,5 +1,5 @@
 -- The program's members by the rows of the blocks. Assumes nothing.
-use Rattle.std.specs.Prelude.{Option, ℕ, zero, suc, ◌+◌, ◌-◌, ◌*◌, ◌<◌, ◌≤◌, ◌≡◌, List, [], ◌∷◌, Bool, length, get_or}
+use Rattle.std.specs.Prelude.{Option, ℕ, zero, suc, ◌+◌, ◌-◌, ◌*◌, ◌<◌, ◌≤◌, ◌≡◌, List, [], ◌∷◌, Bool, not, length, get_or}
 use Rattle.std.proofs.Common.{sym, ◌∙◌, arith, ap, true, false, eqb}
 use Rattle.std.specs.Bool.{beq}
 use Rattle.std.proofs.Math.ListN.{get_or-eq_default}
@@ -123,3 +123,11 @@ module _ (s : List ℕ) (n : ℕ) (t : List ℕ) (a : Bool) (X : Spot) where
 
   pub agrees_some : (c i : ℕ) → spot c i ≡ X → (b d r : Bool) → b ≡ a → d ≡ (method R c i).static → r ≡ beq b d → r ≡ agrees R a X
   agrees_some c i e b d r p q v = rw (← e) (rw (p, q) at v)
+
+pub truth_yes : (a b : Bool) → a ≡ true → b ≡ beq a b
+truth_yes a true e = rw e
+truth_yes a false e = rw e
+
+pub truth_no : (a b : Bool) → a ≡ false → not b ≡ beq a b
+truth_no a true e = rw e
+truth_no a false e = rw e

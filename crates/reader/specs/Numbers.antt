@@ -1,6 +1,6 @@
 -- Class names and their numbers, as the code finds them. Assumes nothing.
 use Rattle.std.specs.Prelude.{◌≡◌, Bool, not, ◌⊎◌, take, drop}
-use Rattle.std.proofs.Common.{Bor, ◌∙◌, inl, inr, zero-add, add-one, drop-cons, drop_of_length-le, ℕ, zero, suc, ◌+◌, ◌*◌, ◌<◌, ◌≤◌, refl, sym, ap, List, [], ◌∷◌, ◌++◌, map, true, false, cond, arith, length, get_or}
+use Rattle.std.proofs.Common.{Bor, ◌∙◌, inl, inr, zero-add, add-one, drop-cons, drop_of_length-le, ℕ, zero, suc, ◌+◌, ◌-◌, ◌*◌, ◌<◌, ◌≤◌, refl, sym, ap, List, [], ◌∷◌, ◌++◌, map, true, false, cond, arith, length, get_or}
 use Rattle.std.proofs.Math.ListN.{get_or-append}
 use Rattle.std.proofs.lemmas.List.{get_or_at}
 use Rattle.kit.specs.Lists.{eq_list}
@@ -165,6 +165,10 @@ module _ (x : Text) (k : ℕ) (h : k ≡ number_in low_names x) where
   unfolding built_in_names low_names high_names built_ins
   high_name j e l = ap (λ (m : ℕ). 6 + m) e ∙ sym (number-back low_names high_names x (omega arith))
 
+pub high_le : (x : Text) (j : ℕ) → j ≡ number_in high_names x → j ≤ 5
+unfolding built_in_names high_names built_ins
+high_le x j e = omega (arith, number-le high_names x)
+
 -- the built-in names, then the bundle's
 module _ (fs : List ClassFile) (x : Text) (k : ℕ) (h : k ≡ number_in built_in_names x) where
   pub built_in_name : k < first_class → k ≡ number_in (class_names fs) x
@@ -179,6 +183,10 @@ module _ (fs : List ClassFile) (x : Text) (k : ℕ) (h : k ≡ number_in built_i
 pub name_as : (s b : List ℕ) (p i : ℕ) (x : Text) → p ≡ word b this_word → i ≡ u2_at s p → x ≡ class_text (pool_of s b) i → x ≡ (class_in s b).name
 unfolding class_in
 name_as s b p i x h e t = t ∙ ap (class_text (pool_of s b)) (e ∙ ap (u2_at s) h)
+
+-- the part that a block is lent as
+pub part-block : (t : List ℕ) (c : ℕ) → take (6432 * c + 6432 - 6432 * c) (drop (6432 * c) t) ≡ take block_size (drop (block_size * c) t)
+part-block t c = let z : 6432 * c + 6432 - 6432 * c ≡ 6432 = omega arith in ap (λ (n : ℕ). take n (drop (6432 * c) t)) z
 
 pub other_as : (s t x : List ℕ) (c : ℕ) (p : Text) (q : Bool) → p ≡ (class_at s t c).name → q ≡ eq_list p x → not q ≡ other_name s t x c
 unfolding other_name

@@ -11,6 +11,7 @@ use Rattle.texts.specs.Names.{Text}
 use Rattle.reader.specs.Program.{Signature, signature, same_signature}
 use Rattle.classfiles.specs.Blocks.{block_size}
 use Rattle.classfiles.specs.BlockWords.{take_put}
+use Rattle.reader.specs.Numbers.{part-block}
 use Rattle.reader.specs.Linked.{parents_at}
 use Rattle.reader.specs.MemberRows.{block_at, row_count, row_sig, other_sig, first_at, index_first, sig_by}
 
@@ -203,6 +204,10 @@ first_lone s t c method h j w e o l p f r q z =
     sym (eq-eqb j j refl)
     ∙ first_under s (block_at t c) method j j (row_sig s (block_at t c) method j) refl l
     (first_none s t c method h j (omega arith) w e o (row_sig s (block_at t c) method j) p (f ∙ h.at j l) r q z)
+
+pub first_block : (s t : List ℕ) (c : ℕ) (method : Bool) (g : Signature) (m r : ℕ) → r ≡ first_not (other_sig s (take (6432 * c + 6432 - 6432 * c) (drop (6432 * c) t)) method g) m 0
+    → r ≡ first_not (other_sig s (block_at t c) method g) m 0
+first_block s t c method g m r h = h ∙ ap (λ (b : List ℕ). first_not (other_sig s b method g) m 0) (part-block t c)
 
 -- the print that stands for row j is that of its texts
 pub print_texts : (s t : List ℕ) (c : ℕ) (method : Bool) (j a : ℕ) (p d : Text) → PrintedAt s t c method → j < row_count (block_at t c) method → a ≡ word t (prints_word c method + j)

@@ -119,7 +119,7 @@ pub fn is_known(n: usize, code: usize) -> bool
 
 // Types one after the other: how many codes were kept, whether all are known, and the position past them.
 #[derive(Clone, Copy)]
-struct Listed {
+pub struct Listed {
     known: bool,
     count: usize,
     at: usize,
