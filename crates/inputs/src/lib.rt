@@ -1,4 +1,4 @@
-// What the programs take from outside: arguments, files and streams; and what they say of a failure.
+// What the programs take from outside: arguments, files and streams.
 #![tactic(auto)]
 
 ghost use Rattle.std.specs.Prelude.{◌≤◌, length, IfOk, IfSome, IsOk, IsUtf8};
@@ -50,10 +50,4 @@ pub fn argument(env: &impl Env, i: usize, path: &mut [u8]) -> Option<usize>
         Err(FillError::TooLong) => Some(0),
         Err(FillError::NotPresent) => None,
     }
-}
-
-// A line of what failed: the file's name, a colon and the error.
-pub fn complain(errors: &impl Print, path: &[u8], e: io::Error) -> io::Result<()> {
-    errors.write_all(path)?;
-    println!(errors; ": {e}")
 }

@@ -1,7 +1,7 @@
 // Reads the bundles that its arguments name: for each a line of its name and its verdict's four numbers, parted by tabs.
 #![tactic(auto)]
 
-use inputs::{argument, complain, read_file};
+use inputs::{argument, read_file};
 use reader::outlet::{self, Answer};
 use std::io;
 use std::rt::{Env, Files};
@@ -15,6 +15,12 @@ fn report(out: &impl Print, path: &[u8], bundle: &[u8], scratch: &mut [u8]) -> i
     } = outlet::judge(bundle, scratch);
     out.write_all(path)?;
     println!(out; "\t{number}\t{class}\t{method}\t{place}")
+}
+
+// A line of what failed: the file's name, a colon and the error.
+fn complain(errors: &impl Print, path: &[u8], e: io::Error) -> io::Result<()> {
+    errors.write_all(path)?;
+    println!(errors; ": {e}")
 }
 
 fn read_one(

@@ -2,7 +2,7 @@
 // parted by tabs.
 #![tactic(auto)]
 
-use inputs::{argument, complain, open, read_full};
+use inputs::{argument, open, read_full};
 use reader::outlet::Answer;
 use std::io;
 use std::io::Read;
@@ -49,6 +49,12 @@ fn judge_named(
 ) -> io::Result<Answer> {
     let mut file = open(files, path)?;
     judge(&mut file, bundle, scratch)
+}
+
+// A line of what failed: the file's name, a colon and the error.
+fn complain(errors: &impl Print, path: &[u8], e: io::Error) -> io::Result<()> {
+    errors.write_all(path)?;
+    println!(errors; ": {e}")
 }
 
 fn main(rt: HostRuntime) -> io::Result<()> {
