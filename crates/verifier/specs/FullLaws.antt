@@ -24,7 +24,7 @@ use Rattle.verifier.specs.FrameForms.{count_by, rest_by, stack_by}
 use Rattle.verifier.specs.Refusals.{then-then, then_bad}
 
 module _ (s t : List ℕ) (x : Site) (f : List ℕ) (k : ℕ) where
-  clean-count : (q : ℕ) → clean k (count_by s t x f k q) ≡ count_by s t x f k q
+  pub clean-count : (q : ℕ) → clean k (count_by s t x f k q) ≡ count_by s t x f k q
   unfolding count_by
   clean-count q = clean-number k s t x f q
 
@@ -40,9 +40,13 @@ module _ (s t : List ℕ) (x : Site) (f : List ℕ) (k : ℕ) where
   types_fault m q n p h = clean-fault k (many (type_at s t x f k) m q) (clean_types m q) n p h
 
   -- the count that the code has read
-  count_is : (q m c : ℕ) → ok m c ≡ num2_at f (length f) 14 k q → count_by s t x f k q ≡ ok m c
+  pub count_is : (q m c : ℕ) → ok m c ≡ num2_at f (length f) 14 k q → count_by s t x f k q ≡ ok m c
   unfolding count_by number_at
   count_is q m c h = sym h
+
+  pub count_cut : (q n p : ℕ) → bad n p ≡ num2_at f (length f) 14 k q → count_by s t x f k q ≡ bad n p
+  unfolding count_by number_at
+  count_cut q n p h = sym h
 
   -- locals past their limit, whatever follows them
   long_locals : (d : ℕ) (l : List Ty) (q : ℕ) → x.locals < length l → and_then (rest_by s t x f k d l q) (sized x k) ≡ bad 14 k

@@ -503,6 +503,14 @@ pub record Tried (s t u : List ℕ) (x : Site) (f : Rows) (live : Bool) (h : Hel
   pub kept : Undone v (u ≡ t)
   pub same : OnWent v (λ d. steady (get_or (site_code s x) o 0) ≡ true → locals_of u h ≡ locals_of t h)
 
+pub tried_none : (s t : List ℕ) (x : Site) (f : Rows) (live : Bool) (h : Held) (o : ℕ) (v : Option Went) → v ≡ None → Tried s t t x f live h o v
+tried_none s t x f live h o v e = subst (λ (w : Option Went). Tried s t t x f live h o w) (sym e) (record { on = tt; off = tt; kept = refl; same = tt })
+
+-- the turn, with the state's place as it was made
+pub tried_on : (s t u : List ℕ) (x : Site) (f : Rows) (live : Bool) (h : Held) (o d : ℕ) → Tried s t u x f live h o (Some (On d)) → (q : Held) → q ≡ down h d
+    → LineDone s t u x f live h o (Ok (record { live = true; held = q }))
+tried_on s t u x f live h o d g q e = rw e g.on
+
 abbrev pub calls : code.Instr → Bool
 calls (Simple i) = false
 calls (Jump i) = false
