@@ -1,5 +1,5 @@
 -- What the code's instructions stand for.
-use Rattle.std.specs.Prelude.{ℕ, ◌/◌, ◌%◌, cond, eqb}
+use Rattle.std.specs.Prelude.{ℕ, ◌/◌, ◌%◌, cond, [], ◌∷◌, get_or, eqb}
 use Rattle.classfiles.specs.Descriptors.{Ref, cls, arr, Desc, dint, dref}
 use Rattle.rules.specs.Instruction.{Instr, FieldRef, MethodRef, Op, add, sub, mul, shl, shr, ushr, and, or, xor, Division, quotient, remainder, Test, eq, ne, lt, ge, gt, le, nop, aconstnull, pop, dup, dupx1, swap, ineg, arraylength, iaload, aaload, iastore, aastore, athrow, ireturn, areturn, return, iconst, iload, aload, istore, astore, goto, new, iinc, ibin, idiv, ifint, ificmp, ifacmp, ifnull, getfield, putfield, invokevirtual, invokespecial, invokestatic, newarray, checkcast, instanceof, illegal, unresolved}
 use Rattle.rules.specs.TypeWords.{nest}
@@ -41,6 +41,13 @@ field_of f = record { named = f.named; owner = f.owner; slot = f.slot; type = de
 
 abbrev pub callee_of : Callee → MethodRef
 callee_of m = record { named = m.named; owner = m.owner; index = m.index }
+
+-- an operation or a division by its number
+abbrev pub op_by : ℕ → Op
+op_by k = get_or (add ∷ sub ∷ mul ∷ shl ∷ shr ∷ ushr ∷ and ∷ or ∷ xor ∷ []) k add
+
+abbrev pub division_by : ℕ → Division
+division_by k = cond (eqb k 0) quotient remainder
 
 abbrev pub op_of : operation.Op → Op
 op_of Add = add

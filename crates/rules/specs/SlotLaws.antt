@@ -353,12 +353,19 @@ module _ (k : Key) (v : Ty) (t u z : List ℕ) (h : Held) (p : Roomy t h) (s : S
       (swap_outside k v u z h.at (h.at + 32) h.depth r (omega arith) (omega arith))
 
 -- ---- fitting
-module _ (hidden : Option code.Ty) (u : Ty) where
-  pub veil_on : (w : code.Ty) (r : Ty) (v : Ty) → hidden ≡ Some w → r ≡ swap1 (key_of (type_of w.word)) v u → v ≡ top → r ≡ veil1 (is_some hidden) (hidden_key hidden) u
-  veil_on w r v e h z = rw e (h ∙ ap (λ (y : Ty). swap1 (key_of (type_of w.word)) y u) z)
+module _ (b : Bool) (k : Key) (u : Ty) where
+  pub veil_on : (r : Ty) (v : Ty) → b ≡ true → r ≡ swap1 k v u → v ≡ top → r ≡ veil1 b k u
+  veil_on r v e h z = rw e (h ∙ ap (λ (y : Ty). swap1 k y u) z)
 
-  pub veil_off : hidden ≡ None → u ≡ veil1 (is_some hidden) (hidden_key hidden) u
+  pub veil_off : b ≡ false → u ≡ veil1 b k u
   veil_off e = rw e
+
+module _ (hidden : Option code.Ty) (u : Ty) where
+  pub hidden_on : (w : code.Ty) (r : Ty) (v : Ty) → hidden ≡ Some w → r ≡ swap1 (key_of (type_of w.word)) v u → v ≡ top → r ≡ veil1 (is_some hidden) (hidden_key hidden) u
+  hidden_on w r v e h z = rw e (veil_on true (key_of (type_of w.word)) u r v refl h z)
+
+  pub hidden_off : hidden ≡ None → u ≡ veil1 (is_some hidden) (hidden_key hidden) u
+  hidden_off e = rw e
 
 pub veil_no : (k : Key) (l : List Ty) → veil false k l ≡ l
 unfolding veil
@@ -561,6 +568,6 @@ module _ (n : ℕ) (q b : Bool) where
 
 pub ruleset states = (fit-flag, fit_depth, fit-slots, fit_no_slot, caught-flag, caught_depth, caught_yes, caught_no)
 
-pub ruleset leaves = (locals_uneven, locals_even, fit_via, claim_via, veil_on, veil_off, swap_yes, swap_no, claim_yes, claim_no, room_none, room_no, room_yes, need_yes, need_no, peek_at, peek_none, local-at, local_none)
+pub ruleset leaves = (locals_uneven, locals_even, fit_via, claim_via, hidden_on, hidden_off, swap_yes, swap_no, claim_yes, claim_no, room_none, room_no, room_yes, need_yes, need_no, peek_at, peek_none, local-at, local_none)
 
 pub ruleset turns = (locals_more, locals_no, locals_end, operands_more, operands_no, operands_end, copy_hit, copy_more, copy_end)

@@ -1,6 +1,9 @@
 // Instructions by their forms, names resolved to numbers, in groups by what they do to a state.
 ghost use Rattle.std.specs.Prelude.{◌≡◌};
+ghost use Rattle.rules.specs.Instruction as rule;
+ghost use Rattle.rules.specs.InstructionWords.{op_of, op_by, division_of, division_by, asked_of};
 ghost use Rattle.rules.specs.Known.{callee_in};
+ghost use Rattle.rules.specs.Opcodes.{test_of};
 
 use crate::types::Ty;
 
@@ -22,7 +25,7 @@ pub struct Callee {
 }
 
 // What two integers are put together by.
-#[derive(Clone, Copy)]
+#[derive(Clone, Copy, Debug, PartialEq, Eq)]
 pub enum Op {
     Add,
     Sub,
@@ -35,14 +38,75 @@ pub enum Op {
     Xor,
 }
 
-#[derive(Clone, Copy)]
+// What stands for an operation: itself or its number, any that is not listed for addition.
+pub trait Operation: Copy {
+    ghost means: { Self → rule.Op };
+
+    fn op(self) -> Op
+        ensures { op_of result ≡ means self };
+}
+
+impl Operation for Op {
+    ghost means = { op_of };
+
+    fn op(self) -> Op {
+        self
+    }
+}
+
+impl Operation for u8 {
+    ghost means = { op_by };
+
+    fn op(self) -> Op {
+        match self {
+            1 => Op::Sub,
+            2 => Op::Mul,
+            3 => Op::Shl,
+            4 => Op::Shr,
+            5 => Op::Ushr,
+            6 => Op::And,
+            7 => Op::Or,
+            8 => Op::Xor,
+            _ => Op::Add,
+        }
+    }
+}
+
+#[derive(Clone, Copy, Debug, PartialEq, Eq)]
 pub enum Division {
     Quotient,
     Remainder,
 }
 
+// What stands for a division: itself or its number, any but 0 for the remainder.
+pub trait Dividing: Copy {
+    ghost means: { Self → rule.Division };
+
+    fn division(self) -> Division
+        ensures { division_of result ≡ means self };
+}
+
+impl Dividing for Division {
+    ghost means = { division_of };
+
+    fn division(self) -> Division {
+        self
+    }
+}
+
+impl Dividing for u8 {
+    ghost means = { division_by };
+
+    fn division(self) -> Division {
+        match self {
+            0 => Division::Quotient,
+            _ => Division::Remainder,
+        }
+    }
+}
+
 // What a branch asks of two integers, or of one and 0.
-#[derive(Clone, Copy)]
+#[derive(Clone, Copy, Debug, PartialEq, Eq)]
 pub enum Test {
     Eq,
     Ne,
@@ -50,6 +114,37 @@ pub enum Test {
     Ge,
     Gt,
     Le,
+}
+
+// What stands for a test: itself or its number, any that is not listed for equality.
+pub trait Asking: Copy {
+    ghost means: { Self → rule.Test };
+
+    fn test(self) -> Test
+        ensures { asked_of result ≡ means self };
+}
+
+impl Asking for Test {
+    ghost means = { asked_of };
+
+    fn test(self) -> Test {
+        self
+    }
+}
+
+impl Asking for u8 {
+    ghost means = { test_of };
+
+    fn test(self) -> Test {
+        match self {
+            1 => Test::Ne,
+            2 => Test::Lt,
+            3 => Test::Ge,
+            4 => Test::Gt,
+            5 => Test::Le,
+            _ => Test::Eq,
+        }
+    }
 }
 
 // What is taken and left is known from the form alone. Newarray holds the array's type.
