@@ -281,9 +281,20 @@ module _ (s : List ℕ) (n : ℕ) (t : List ℕ) (m : n ≤ 16) (pool : List Con
         class_unknown y = sym (good ∙ rw (same_known, y))
 
 -- ---- by the kind of an entry
+module _ (s : List ℕ) (e v : Entry) (x : Constant) (p : constant_of e ≡ x) (k : e ≡ v) where
+  entry_is : constant_of v ≡ x
+  entry_is = ap constant_of (sym k) ∙ p
+
+  pub signature_none : (P : Program) (pool : List Constant) (f : Signature → Resolved) → nothing ≡ with_signature pool (constant_of v) f → Named s P (with_signature pool x f) 0
+  signature_none P pool f h = named_none s P (with_signature pool x f) (h ∙ ap (λ (y : Constant). with_signature pool y f) entry_is)
+
+  pub signature_some : (P : Program) (pool : List Constant) (f : Signature → Resolved) (w : ℕ) → Named s P (with_signature pool (constant_of v) f) w → Named s P (with_signature pool x f) w
+  signature_some P pool f w h = named_as s P _ _ w h (ap (λ (y : Constant). with_signature pool y f) entry_is)
+
+-- any but a NameAndType; a NameAndType by its texts
 module _ (s : List ℕ) (P : Program) (pool : List Constant) (e : Entry) (x : Constant) (p : constant_of e ≡ x) (f : Signature → Resolved) where
-  pub signature_none : ((i j : ℕ) → e ≡ held.NameAndType i j → ⊥) → Named s P (with_signature pool x f) 0
-  signature_none h = named_none s P (with_signature pool x f) (by e h ∙ ap (λ (y : Constant). with_signature pool y f) p)
+  pub no_signature : ((i j : ℕ) → e ≡ held.NameAndType i j → ⊥) → Named s P (with_signature pool x f) 0
+  no_signature h = signature_none s e e x p refl P pool f (by e h)
     where
       by : (v : Entry) → ((i j : ℕ) → v ≡ held.NameAndType i j → ⊥) → nothing ≡ with_signature pool (constant_of v) f
       by held.Absent n = refl
@@ -294,11 +305,10 @@ module _ (s : List ℕ) (P : Program) (pool : List Constant) (e : Entry) (x : Co
       by (held.Method i j) n = refl
       by (held.NameAndType i j) n = absurd (n i j refl)
 
-  pub signature_some : (i j w : ℕ) (a b : Text) → e ≡ held.NameAndType i j → a ≡ text pool i → b ≡ text pool j → Named s P (f (signature a b)) w → Named s P (with_signature pool x f) w
-  signature_some i j w a b k h g y =
-      named_as s P _ _ w y
-      (ap (λ (u : Text). f (signature u b)) h ∙ ap (λ (u : Text). f (signature (text pool i) u)) g
-      ∙ ap (λ (v : Entry). with_signature pool (constant_of v) f) (sym k) ∙ ap (λ (y : Constant). with_signature pool y f) p)
+  pub signature_of : (i j w : ℕ) (a b : Text) → e ≡ held.NameAndType i j → a ≡ text pool i → b ≡ text pool j → Named s P (f (signature a b)) w → Named s P (with_signature pool x f) w
+  signature_of i j w a b k h g y =
+      signature_some s e (held.NameAndType i j) x p k P pool f w
+      (named_as s P _ _ w y (ap (λ (u : Text). f (signature u b)) h ∙ ap (λ (u : Text). f (signature (text pool i) u)) g))
 
 module _ (s : List ℕ) (P : Program) (w : ℕ) where
   pub member-method : (m : Bool) (c : ℕ) (g : Signature) → m ≡ true → Named s P (method_in P g c) w → Named s P (member_in P m c g) w
