@@ -1,16 +1,30 @@
 -- The heap in cells: what the code's stores leave, and types by their two numbers. Assumes nothing.
-use Rattle.std.specs.Prelude.{◌≡◌, ℕ, zero, suc, ◌+◌, ◌≤◌, Bool, true, false, cond, List, [], ◌∷◌, ◌++◌, length, take, drop, replicate, ◌==◌, slice_index, slice_set}
-use Rattle.std.proofs.Common.{sym, ap, ◌∙◌, append_assoc, add_assoc, arith, eqb-true, leb-true, length-append, length-drop, length-take-le, take-take, drop_at, drop-drop, refl}
+use Rattle.std.specs.Prelude.{◌≡◌, ℕ, zero, suc, ◌+◌, ◌-◌, ◌<◌, ◌≤◌, Bool, true, false, cond, List, [], ◌∷◌, ◌++◌, length, take, drop, replicate, ◌==◌, slice_index, slice_set}
+use Rattle.std.proofs.Common.{sym, ap, ◌∙◌, append_assoc, add-zero, add_assoc, arith, eqb-true, leb-true, length-append, length-drop, take-append-drop, length-take-le, take-take, drop_at, drop-drop, refl}
 use Rattle.std.proofs.lemmas.List.{length-replicate, take-append-le}
 use Rattle.std.proofs.lemmas.List.Edits.{sets-eq}
 use borrow.Rule.Slice.PartMut.{put_mid}
-use Rattle.kit.specs.Lists.{length_part}
+use Rattle.kit.specs.Lists.{length_part, set_append_right, fill_step}
 use Rattle.classfiles.specs.Descriptors.{cls, dint, dref, dimensions, depth_of}
 use Rattle.plain.specs.Heap.{heap, int_base, desc_of, ref_of, base_of, element_base, type_at, store, mark_ready, allocate, has_room}
 
 -- n cells from a on made zero
 unfoldable pub cleared : List ℕ → ℕ → ℕ → List ℕ
 cleared l a n = take a l ++ (replicate n 0 ++ drop (a + n) l)
+
+-- a loop that clears: before the first cell, and one more
+pub clear_none : (l : List ℕ) (a : ℕ) → l ≡ cleared l a 0
+unfolding cleared
+clear_none l a = rw (add-zero a) (sym (take-append-drop a l))
+
+pub clear_more : (l t : List ℕ) (a k : ℕ) → a + k < length l → t ≡ cleared l a k → slice_set t (a + k) 0 ≡ cleared l a (k + 1)
+unfolding cleared
+clear_more l t a k h q =
+    let i : a + k - length (take a l) ≡ k = omega (arith, length-take-le a l (omega arith)) in
+    rw q
+    (set_append_right (take a l) (replicate k 0 ++ drop (a + k) l) (a + k) 0 (omega (arith, length-take-le a l (omega arith)))
+    ∙ ap (λ (x : List ℕ). take a l ++ x)
+    (rw (i, ← drop-drop k a l) (fill_step (drop a l) k 0 (omega (arith, length-drop a l)) ∙ rw (drop-drop (k + 1) a l))))
 
 -- as `fill` leaves a part
 pub clear_part : (l m : List ℕ) (a n k : ℕ) → a + n ≤ length l → k ≡ n → m ≡ replicate (length (take k (drop a l))) 0 → put_mid a k l m ≡ cleared l a n

@@ -2,6 +2,7 @@
 -- Assumes nothing.
 use Rattle.std.specs.Prelude.{◌≡◌, ℕ, zero, suc, ◌+◌, ◌-◌, ◌*◌, ◌/◌, ◌%◌, ◌^◌, ◌<◌, ◌≤◌, min, max, cond, not, [], ◌∷◌, pos, negsuc, neg_ℤ, ◌==◌, ◌≢◌, bit_and, bit_or, bit_xor, nat_le, nat_lt, refl}
 use Rattle.std.proofs.Common.{sym, ap, ◌∙◌, ⊎_elim, lt_of_le_of_lt, mul-le-mul_left, mul-lt-mul_of_pos_right, le_of_lt, pow-suc, arith, lt-ltb, le-ltb, le-leb, eq-eqb, ne_eqb, pow_pos, of_z, to_z, div-le_self}
+use Rattle.std.proofs.Math.ListN.{get_or-eq_default}
 use Rattle.std.proofs.Math.Nat.{mod-le}
 use Rattle.std.proofs.lemmas.Bool.{lt-leb}
 use Rattle.std.proofs.Math.Arith.{lt-one}
@@ -9,6 +10,8 @@ use Rattle.std.specs.Int.Bits.{digits, differ, and_step, or_step, xor_step, and_
 use Rattle.std.specs.Int.{w32}
 use Rattle.kit.specs.Pick.{side}
 use Rattle.rules.specs.Instruction.{add, sub, mul, shl, shr, ushr, and, or, xor, quotient, remainder, eq, ne, lt, ge, gt, le}
+use Rattle.rules.specs.InstructionWords.{op_by, division_by}
+use Rattle.rules.specs.Opcodes.{test_of}
 use Rattle.plain.specs.Integers.{negated, compute, divided, less, holds, negative}
 
 abbrev pub magnitude_of : ℕ → ℕ
@@ -159,4 +162,36 @@ module _ (a b : ℕ) (h : a < 2 ^ 32) where
   unfolding compute
   xor_digits = few_digits (λ c. c) differ bit_xor xor_zero_l xor_step 32 a b h
 
-pub ruleset integers = (div_pp, div_nn, div_pn, div_np, rem_p, rem_n, size_some, shr_pos, shr_neg, order, sign_bit, and_digits, or_digits, xor_digits, product)
+-- ---- numbers of operations and tests: the first one's for any that is not listed
+past_four : (k : ℕ) → 0 < k → (k ≢ 1) → (k ≢ 2) → (k ≢ 3) → (k ≢ 4) → 4 < k
+past_four k h h1 h2 h3 h4 = omega arith
+
+past_eight : (k : ℕ) → 4 < k → (k ≢ 5) → (k ≢ 6) → (k ≢ 7) → (k ≢ 8) → 9 ≤ k
+past_eight k h h5 h6 h7 h8 = omega arith
+
+zero_of : {k : ℕ} → k ≤ 0 → k ≡ 0
+zero_of h = omega arith
+
+pub op-rest : (k r a b : ℕ) → (k ≢ 1) → (k ≢ 2) → (k ≢ 3) → (k ≢ 4) → (k ≢ 5) → (k ≢ 6) → (k ≢ 7) → (k ≢ 8)
+    → r ≡ compute add a b → r ≡ compute (op_by k) a b
+op-rest k r a b h1 h2 h3 h4 h5 h6 h7 h8 e =
+    let q : op_by k ≡ add =
+    ⊎_elim (λ h. get_or-eq_default (add ∷ sub ∷ mul ∷ shl ∷ shr ∷ ushr ∷ and ∷ or ∷ xor ∷ []) add {n = k} (past_eight k (past_four k h h1 h2 h3 h4) h5 h6 h7 h8))
+    (λ h. ap op_by (zero_of h)) (side 0 k) in
+    rw q e
+
+pub test_rest : (k a b : ℕ) → (k ≢ 1) → (k ≢ 2) → (k ≢ 3) → (k ≢ 4) → (k ≢ 5) → (a == b) ≡ holds (test_of k) a b
+unfolding holds
+test_rest k a b h1 h2 h3 h4 h5 =
+    let q : test_of k ≡ eq =
+    ⊎_elim (λ h. get_or-eq_default (eq ∷ ne ∷ lt ∷ ge ∷ gt ∷ le ∷ []) eq {n = k} (omega arith)) (λ h. ap test_of (zero_of h)) (side 0 k) in
+    rw q
+
+module _ (k r a b : ℕ) where
+  pub quotient_at : k ≡ 0 → r ≡ divided quotient a b → r ≡ divided (division_by k) a b
+  quotient_at h e = rw (eq-eqb k 0 h) e
+
+  pub remainder_at : (k ≢ 0) → r ≡ divided remainder a b → r ≡ divided (division_by k) a b
+  remainder_at h e = rw (ne_eqb k 0 h) e
+
+pub ruleset integers = (div_pp, div_nn, div_pn, div_np, rem_p, rem_n, size_some, shr_pos, shr_neg, order, sign_bit, and_digits, or_digits, xor_digits, product, op-rest, test_rest, quotient_at, remainder_at)

@@ -47,6 +47,22 @@ carry_more l l' from to i v h m e k = record {
         let z : j ≡ i = omega arith in
         rw z (get_or-set_same l' (to + i) v 0 (rw k.size m) ∙ e ∙ get_d_front l l' to (from + i) k.front h)
 
+pub wipe_none : (l : List ℕ) (to : ℕ) → Wiped l l to 0
+wipe_none l to = record { size = refl; front = refl; zeros = λ i h. absurd (omega arith) }
+
+pub wipe_more : (l l' : List ℕ) (to i : ℕ) → to + i < length l → Wiped l l' to i → Wiped l (slice_set l' (to + i) 0) to (i + 1)
+wipe_more l l' to i m k = record {
+  size = length-set l' (to + i) 0 ∙ k.size;
+  front = take-set-le to l' (to + i) 0 (omega arith) ∙ k.front;
+  zeros = λ j b. at j (omega arith) (side j i);
+}
+  where
+    at : (j : ℕ) → j ≤ i → (j < i) ⊎ (i ≤ j) → slice_index (slice_set l' (to + i) 0) (to + j) ≡ 0
+    at j b (inl c) = get_or-set_other l' (to + i) (to + j) 0 0 (λ z. omega arith) ∙ k.zeros j c
+    at j b (inr c) =
+        let z : j ≡ i = omega arith in
+        rw z (get_or-set_same l' (to + i) 0 0 (rw k.size m))
+
 -- as `fill` leaves a part
 pub wipe_part : (l m : List ℕ) (to n k : ℕ) → to + n ≤ length l → k ≡ n → m ≡ replicate (length (take k (drop to l))) 0 → Wiped l (put_mid to k l m) to n
 wipe_part l m to n k h e p =

@@ -1,14 +1,13 @@
 // The instructions that touch the running call's window alone.
 ghost use Rattle.std.specs.Prelude.{◌≡◌, ◌+◌, ◌<◌, ◌≤◌, length};
 ghost use Rattle.rules.specs.Instruction.{nop, aconstnull, pop, dup, dupx1, swap, ineg, iconst, iload, aload, istore, astore, goto, iinc, ibin, idiv, ifint, ificmp};
-ghost use Rattle.rules.specs.InstructionWords.{op_of, division_of, asked_of};
 ghost use Rattle.plain.specs.Windows.{Sized, Goes};
 ghost use Rattle.plain.specs.WindowForms.{doing, on_top, two_ints, in_local, turned_words, turned_tags};
 
 use crate::integers;
 use crate::values::Value;
 use crate::window::{self, Halt, Onward, Place, Turn};
-use rules::instruction::{Division, Op, Test};
+use rules::instruction::{Asking, Dividing, Operation};
 
 // Whether an operand of that kind is on top.
 pub fn on_top(g: &[u8], c: Place, kind: u8) -> bool
@@ -129,9 +128,9 @@ pub fn ineg(w: &mut [u32], g: &mut [u8], c: Place) -> Turn
     window::push(w, g, c.lowered(1), v)
 }
 
-pub fn ibin(w: &mut [u32], g: &mut [u8], c: Place, f: Op) -> Turn
+pub fn ibin<O: Operation>(w: &mut [u32], g: &mut [u8], c: Place, f: O) -> Turn
     requires { Sized c w.old g.old }
-    ensures { Goes c w.old g.old w.new g.new result (doing w.old g.old c.operands (ibin (op_of f))) }
+    ensures { Goes c w.old g.old w.new g.new result (doing w.old g.old c.operands (ibin (O.means f))) }
 {
     if !two_ints(g, c) {
         return Err(Halt::Stuck);
@@ -142,9 +141,9 @@ pub fn ibin(w: &mut [u32], g: &mut [u8], c: Place, f: Op) -> Turn
     window::push(w, g, c.lowered(2), v)
 }
 
-pub fn idiv(w: &mut [u32], g: &mut [u8], c: Place, f: Division) -> Turn
+pub fn idiv<D: Dividing>(w: &mut [u32], g: &mut [u8], c: Place, f: D) -> Turn
     requires { Sized c w.old g.old }
-    ensures { Goes c w.old g.old w.new g.new result (doing w.old g.old c.operands (idiv (division_of f))) }
+    ensures { Goes c w.old g.old w.new g.new result (doing w.old g.old c.operands (idiv (D.means f))) }
 {
     if !two_ints(g, c) {
         return Err(Halt::Stuck);
@@ -159,9 +158,9 @@ pub fn idiv(w: &mut [u32], g: &mut [u8], c: Place, f: Division) -> Turn
     window::push(w, g, c.lowered(2), v)
 }
 
-pub fn if_int(w: &[u32], g: &[u8], c: Place, f: Test, t: u16) -> Turn
+pub fn if_int<T: Asking>(w: &[u32], g: &[u8], c: Place, f: T, t: u16) -> Turn
     requires { Sized c w.now g.now }
-    ensures { Goes c w.now g.now w.now g.now result (doing w.now g.now c.operands (ifint (asked_of f) t)) }
+    ensures { Goes c w.now g.now w.now g.now result (doing w.now g.now c.operands (ifint (T.means f) t)) }
 {
     if !on_top(g, c, Value::NUM) {
         return Err(Halt::Stuck);
@@ -174,9 +173,9 @@ pub fn if_int(w: &[u32], g: &[u8], c: Place, f: Test, t: u16) -> Turn
     window::go(w, g, d, d.after)
 }
 
-pub fn if_two(w: &[u32], g: &[u8], c: Place, f: Test, t: u16) -> Turn
+pub fn if_two<T: Asking>(w: &[u32], g: &[u8], c: Place, f: T, t: u16) -> Turn
     requires { Sized c w.now g.now }
-    ensures { Goes c w.now g.now w.now g.now result (doing w.now g.now c.operands (ificmp (asked_of f) t)) }
+    ensures { Goes c w.now g.now w.now g.now result (doing w.now g.now c.operands (ificmp (T.means f) t)) }
 {
     if !two_ints(g, c) {
         return Err(Halt::Stuck);

@@ -1,11 +1,10 @@
 // 32-bit integers as two's complement bits in a u32: those from 2 ^ 31 on read as negative.
 ghost use Rattle.std.specs.Prelude.{◌≡◌, ◌^◌, ◌<◌, ◌≤◌, not};
 ghost use Rattle.rules.specs.Instruction.{add, sub, mul, shl, shr, ushr, and, or, xor, quotient, remainder};
-ghost use Rattle.rules.specs.InstructionWords.{op_of, division_of, asked_of};
 ghost use Rattle.plain.specs.Integers.{negated, compute, divided, less, holds, negative};
 ghost use Rattle.plain.specs.IntegerLaws.{magnitude_of, biased_of};
 
-use rules::instruction::{Division, Op, Test};
+use rules::instruction::{Asking, Dividing, Division, Op, Operation, Test};
 
 pub fn iadd(a: u32, b: u32) -> u32
     ensures { result ≡ compute add a b }
@@ -146,10 +145,10 @@ pub fn negative(a: u32) -> bool
 }
 
 // An operation of two integers.
-pub fn binary(op: Op, a: u32, b: u32) -> u32
-    ensures { result ≡ compute (op_of op) a b }
+pub fn binary<O: Operation>(op: O, a: u32, b: u32) -> u32
+    ensures { result ≡ compute (O.means op) a b }
 {
-    match op {
+    match op.op() {
         Op::Add => iadd(a, b),
         Op::Sub => isub(a, b),
         Op::Mul => imul(a, b),
@@ -163,21 +162,21 @@ pub fn binary(op: Op, a: u32, b: u32) -> u32
 }
 
 // A division by a divisor that the caller has tested.
-pub fn divide(op: Division, a: u32, b: u32) -> u32
+pub fn divide<D: Dividing>(op: D, a: u32, b: u32) -> u32
     requires { 0 < b }
-    ensures { result ≡ divided (division_of op) a b }
+    ensures { result ≡ divided (D.means op) a b }
 {
-    match op {
+    match op.division() {
         Division::Quotient => idiv(a, b),
         Division::Remainder => irem(a, b),
     }
 }
 
 // A test of two integers.
-pub fn test(asked: Test, a: u32, b: u32) -> bool
-    ensures { result ≡ holds (asked_of asked) a b }
+pub fn test<T: Asking>(asked: T, a: u32, b: u32) -> bool
+    ensures { result ≡ holds (T.means asked) a b }
 {
-    match asked {
+    match asked.test() {
         Test::Eq => a == b,
         Test::Ne => a != b,
         Test::Lt => less(a, b),

@@ -3,13 +3,13 @@ use Rattle.plain.specs.WindowForms.{bin_by, steps, theres}
 use Rattle.plain.proofs.forms.ibin.Goals as goal
 
 pub returns-then-not-two_ints : goal.returns-then-not-two_ints
-returns-then-not-two_ints c = if_not _ _ _ _ _ _ (bin_by _ _ _ _) (search decided)
+returns-then-not-two_ints g c = if_not _ _ _ _ _ _ (bin_by _ _ _ _) (search decided)
 
 pub lowered-requires : goal.lowered-requires
-lowered-requires c = search theres
+lowered-requires g c = search theres
 
 pub push-requires : goal.push-requires
-push-requires c = search (sized_low)
+push-requires g c = search (sized_low)
 
 pub returns : goal.returns
-returns c = if_so _ _ _ _ _ _ _ _ _ (bin_by _ _ _ _) (search decided) (search steps depth 6)
+returns g c = if_so _ _ _ _ _ _ _ _ _ (bin_by _ _ _ _) (search decided) (search steps depth 6)
