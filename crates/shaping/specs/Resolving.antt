@@ -282,7 +282,7 @@ module _ (s : List ℕ) (n : ℕ) (t : List ℕ) (m : n ≤ 16) (pool : List Con
 
 -- ---- by the kind of an entry
 module _ (s : List ℕ) (e v : Entry) (x : Constant) (p : constant_of e ≡ x) (k : e ≡ v) where
-  entry_is : constant_of v ≡ x
+  pub entry_is : constant_of v ≡ x
   entry_is = ap constant_of (sym k) ∙ p
 
   pub signature_none : (P : Program) (pool : List Constant) (f : Signature → Resolved) → nothing ≡ with_signature pool (constant_of v) f → Named s P (with_signature pool x f) 0
@@ -290,6 +290,11 @@ module _ (s : List ℕ) (e v : Entry) (x : Constant) (p : constant_of e ≡ x) (
 
   pub signature_some : (P : Program) (pool : List Constant) (f : Signature → Resolved) (w : ℕ) → Named s P (with_signature pool (constant_of v) f) w → Named s P (with_signature pool x f) w
   signature_some P pool f w h = named_as s P _ _ w h (ap (λ (y : Constant). with_signature pool y f) entry_is)
+
+-- the texts of a NameAndType
+pub texts_as : (s : List ℕ) (P : Program) (pool : List Constant) (i j : ℕ) (a b : Text) (f : Signature → Resolved) (w : ℕ) → a ≡ text pool i → b ≡ text pool j
+    → Named s P (f (signature a b)) w → Named s P (f (signature (text pool i) (text pool j))) w
+texts_as s P pool i j a b f w hp hq h = named_as s P _ _ w h (ap (λ (x : Text). f (signature x b)) hp ∙ ap (λ (y : Text). f (signature (text pool i) y)) hq)
 
 -- any but a NameAndType; a NameAndType by its texts
 module _ (s : List ℕ) (P : Program) (pool : List Constant) (e : Entry) (x : Constant) (p : constant_of e ≡ x) (f : Signature → Resolved) where
@@ -306,9 +311,7 @@ module _ (s : List ℕ) (P : Program) (pool : List Constant) (e : Entry) (x : Co
       by (held.NameAndType i j) n = absurd (n i j refl)
 
   pub signature_of : (i j w : ℕ) (a b : Text) → e ≡ held.NameAndType i j → a ≡ text pool i → b ≡ text pool j → Named s P (f (signature a b)) w → Named s P (with_signature pool x f) w
-  signature_of i j w a b k h g y =
-      signature_some s e (held.NameAndType i j) x p k P pool f w
-      (named_as s P _ _ w y (ap (λ (u : Text). f (signature u b)) h ∙ ap (λ (u : Text). f (signature (text pool i) u)) g))
+  signature_of i j w a b k h g y = signature_some s e (held.NameAndType i j) x p k P pool f w (texts_as s P pool i j a b f w h g y)
 
 module _ (s : List ℕ) (P : Program) (w : ℕ) where
   pub member-method : (m : Bool) (c : ℕ) (g : Signature) → m ≡ true → Named s P (method_in P g c) w → Named s P (member_in P m c g) w
