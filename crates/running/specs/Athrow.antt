@@ -26,7 +26,7 @@ use Rattle.running.specs.Standing.{records, Standing, few_operands}
 use Rattle.plain.specs.Windows.{halt_of}
 use Rattle.plain.specs.declared.window.Halt.{Halt}
 use Rattle.plain.specs.declared.window.Halt.TheVariants.{Fault, Stuck}
-use Rattle.running.specs.Throwing.{Move, moved_of, if_stopped, kept_by, unreturned, Faults, Throws}
+use Rattle.running.specs.Throwing.{Move, moved_of, if_stopped, kept_by, unreturned, null_only, Faults, Throws}
 use Rattle.running.specs.declared.ends.End.{End}
 use Rattle.running.specs.declared.ends.End.TheVariants.{Returned, Uncaught, HeapFull as NoRoom, DepthFull as NoDepth, Stuck as NoWay}
 use Rattle.running.specs.declared.athrow.Thrown.{Thrown}
@@ -39,6 +39,8 @@ thrown_of P x (Err h) = halt_of P x h
 pub record Checks (n : ℕ) (t cells s g : List ℕ) (d : ℕ) (k : Frame) (r : Answer Thrown Halt) : Type 0 where
   pub is : (P : Program) (x : Here) (used : ℕ) → Parents P (front t) 25728 (first_class + n) → x.heap ≡ heap cells used
       → thrown_of P x r ≡ execute P x (ops_of (window_at s d) (window_at g d) k.operands) athrow
+  -- its only fault
+  pub one : IfErr r null_only
 
 module _ (n : ℕ) (t cells s g : List ℕ) (d : ℕ) (k : Frame) where
   abbrev L : Program
@@ -59,7 +61,7 @@ module _ (n : ℕ) (t cells s g : List ℕ) (d : ℕ) (k : Frame) where
       fits = rw e (sym (fits_here cells used (value_fits L (heap cells 0) (dref (cls throwable)) top) P (front t) 25728 (first_class + n) p (dref (cls throwable)) top refl))
 
   pub thrown_none : k.operands < 1 → Checks n t cells s g d k (Err Stuck)
-  thrown_none h = record { is = λ P x used p e. (sym (athrow_by P x used p e ∙ rw (lt-leb 1 k.operands h))) }
+  thrown_none h = record { is = λ P x used p e. (sym (athrow_by P x used p e ∙ rw (lt-leb 1 k.operands h))); one = tt }
 
   module _ (h : 1 ≤ k.operands) (m : k.operands ≤ 32) where
     -- the top operand where the code finds it
@@ -80,7 +82,7 @@ module _ (n : ℕ) (t cells s g : List ℕ) (d : ℕ) (k : Frame) where
 
     module _ (q : Bool) (eq : q ≡ refers_to L (heap cells 0) (cls throwable) found) where
       pub thrown_unfit : not q ≡ true → Checks n t cells s g d k (Err Stuck)
-      thrown_unfit f = record { is = λ P x used p e. (sym (found-by P x used p e ∙ ap (λ (b : Bool). only b (null_or found (fault P x null_pointer) (λ a. throw P x (suc a) (get_or cells a 0)))) (untrue q _ f eq))) }
+      thrown_unfit f = record { is = λ P x used p e. (sym (found-by P x used p e ∙ ap (λ (b : Bool). only b (null_or found (fault P x null_pointer) (λ a. throw P x (suc a) (get_or cells a 0)))) (untrue q _ f eq))); one = tt }
 
       module _ (f : not q ≡ false) (j : ℕ) (ej : j ≡ to_cell found) where
         fits_by : (P : Program) (x : Here) (used : ℕ) → Parents P (front t) 25728 (first_class + n) → x.heap ≡ heap cells used
@@ -92,12 +94,12 @@ module _ (n : ℕ) (t cells s g : List ℕ) (d : ℕ) (k : Frame) where
             ∙ ap (λ (i : ℕ). cond (eqb i 0) (fault P x null_pointer) (throw P x (suc (i - 1)) (get_or cells (i - 1) 0))) (sym ej)
 
         pub thrown_null : j ≡ 0 → Checks n t cells s g d k (Err (Fault null_pointer))
-        thrown_null o = record { is = λ P x used p e. (sym (fits_by P x used p e ∙ rw (eq-eqb j 0 o))) }
+        thrown_null o = record { is = λ P x used p e. (sym (fits_by P x used p e ∙ rw (eq-eqb j 0 o))); one = refl }
 
         pub thrown_object : (c : ℕ) → (j ≡ 0 → ⊥) → c ≡ get_or cells (j - 1) 0 → Checks n t cells s g d k (Ok (record { object = j; class = c }))
         thrown_object c o y =
             let i : suc (j - 1) ≡ j = omega (arith, o) in
-            record { is = λ P x used p e. rw y (sym (fits_by P x used p e ∙ rw (ne_eqb j 0 o, i))) }
+            record { is = λ P x used p e. rw y (sym (fits_by P x used p e ∙ rw (ne_eqb j 0 o, i))); one = tt }
 
 -- ---- and lands
 pub record Athrows (b : List ℕ) (n : ℕ) (t cells s g cells' s' g' : List ℕ) (d : ℕ) (k : Frame) (used : ℕ) (r : Move) : Type 0 where

@@ -1,5 +1,5 @@
 -- What an instruction that calls comes to, by the code's tests in the definition's order. Assumes nothing.
-use Rattle.std.specs.Prelude.{Ok, Err, IfOk, OnErr, IsErrAnd, ℕ, suc, ◌+◌, ◌-◌, ◌*◌, ◌<◌, ◌≤◌, ◌≡◌, refl, Bool, true, false, cond, ◌⊎◌, leb, length}
+use Rattle.std.specs.Prelude.{Ok, Err, IfOk, IfErr, OnErr, IsErrAnd, ℕ, suc, ◌+◌, ◌-◌, ◌*◌, ◌<◌, ◌≤◌, ◌≡◌, refl, Bool, true, false, cond, ◌⊎◌, leb, length}
 use Rattle.std.proofs.Common.{sym, ◌∙◌, inl, inr, arith, le-leb, length-append, ap, List, [], ◌∷◌, reverse}
 use Rattle.std.proofs.lemmas.Bool.{lt-leb}
 use Rattle.kit.specs.Bools.{not_so}
@@ -33,10 +33,11 @@ use Rattle.rules.specs.declared.site.Site.{Site}
 use Rattle.rules.specs.declared.instruction.Callee.{Callee}
 use Rattle.plain.specs.declared.frames.Frame.{Frame}
 use Rattle.plain.specs.declared.window.Halt.{Halt}
-use Rattle.plain.specs.declared.window.Halt.TheVariants.{Stuck}
+use Rattle.plain.specs.declared.window.Halt.TheVariants.{DepthFull, Stuck}
 use Rattle.running.specs.declared.entering.Way.{Way}
 use Rattle.running.specs.Standing.{records, Row, method_by, AtCall, Standing, Passed, passed, few_operands}
 use Rattle.running.specs.Popping.{Taking, Pops, kin_of}
+use Rattle.running.specs.Throwing.{null_only}
 use Rattle.running.specs.Entering.{Enterable, Into}
 
 -- ---- a context that stands where the code does
@@ -50,19 +51,22 @@ pub record Called (b : List ℕ) (n : ℕ) (t s g cells t' s' g' cells' : List �
   pub is : (x : Here) (used : ℕ) → At t s g cells used d k x → going_of (program_now b n t) x (heap cells' used) t' records s' g' r ≡ what x
   pub stands : IfOk r (λ o. Standing b n t' s' g' o.depth o.call)
   pub kept : OnErr r ((t' ≡ t) × (s' ≡ s) × (g' ≡ g) × (cells' ≡ cells))
+  -- a call's only fault
+  pub one : IfErr r null_only
   pub besides : Besides records 384 t t'
 
 module _ (b : List ℕ) (n : ℕ) (t s g cells : List ℕ) (d : ℕ) (k : Frame) (what : Here → Result) where
-  pub called_halts : (h : Halt) → ((x : Here) (used : ℕ) → At t s g cells used d k x → what x ≡ halt_of (program_now b n t) x h) → Called b n t s g cells t s g cells d k (Err h) what
-  called_halts i h = record {
+  pub called_halts : (h : Halt) → null_only h → ((x : Here) (used : ℕ) → At t s g cells used d k x → what x ≡ halt_of (program_now b n t) x h) → Called b n t s g cells t s g cells d k (Err h) what
+  called_halts i o h = record {
     is = λ x used a. sym (h x used a);
     stands = tt;
     kept = (refl, refl, refl, refl);
+    one = o;
     besides = besides_none records 384 t;
   }
 
   pub called-stuck : ((x : Here) (used : ℕ) → At t s g cells used d k x → what x ≡ stopped stuck) → Called b n t s g cells t s g cells d k (Err Stuck) what
-  called-stuck h = called_halts Stuck h
+  called-stuck h = called_halts Stuck tt h
 
   -- the halt that `?` hands on
   pub called_handed : (r : Going) (h : Halt) → IsErrAnd r (λ z. z ≡ h) → Called b n t s g cells t s g cells d k (Err h) what → Called b n t s g cells t s g cells d k r what
@@ -76,12 +80,17 @@ module _ (b : List ℕ) (n : ℕ) (t s g cells : List ℕ) (d : ℕ) (k : Frame)
     is = λ x used a. rw (← a.heap) (z.is x a.runs ∙ sym (h x used a));
     stands = z.stands;
     kept = more r z.kept;
+    one = deep r z.low;
     besides = z.besides;
   }
     where
       more : (r : Going) → OnErr r ((t' ≡ t) × (s' ≡ s) × (g' ≡ g)) → OnErr r ((t' ≡ t) × (s' ≡ s) × (g' ≡ g) × (cells ≡ cells))
       more (Ok o) q = tt
       more (Err h) q = (q.0, q.1, q.2, refl)
+
+      deep : (r : Going) → IfErr r (λ h. h ≡ DepthFull) → IfErr r null_only
+      deep (Ok o) q = tt
+      deep (Err h) q = rw q tt
 
 -- ---- what stands before a call: the run, the running method's site, and the instruction that calls
 pub record Calling (b t s g : List ℕ) (x : Site) (d : ℕ) (k : Frame) : Type 0 where
@@ -242,7 +251,7 @@ module _ (b t s g : List ℕ) (x : Site) (d : ℕ) (k : Frame) (m : Callee) (h :
           standing = h.at.standing;
           call = h.at.call;
           of = static_of;
-          args = omega (arith, args_fit N true (passed b x.classes t h.at.standing.ready h.at.standing.shaped m.owner m.index static_of) h.static, z.count e, ap length (params_are b x.classes t h.at.standing.ready m.owner m.index static_of));
+          args = omega (arith, args_fit N true (passed b x.classes t h.at.standing.ready h.at.standing.shaped m.owner m.index static_of) h.static, z.count, ap length (params_are b x.classes t h.at.standing.ready m.owner m.index static_of));
           operands = omega (arith, z.all e);
           room = omega (arith, results_long, l, stack_is b t s g x d k h.at);
         }

@@ -1,6 +1,6 @@
 -- The entry of a run, and its first call as the code lays it out. Assumes nothing.
-use Rattle.std.specs.Prelude.{ℕ, zero, suc, ◌+◌, ◌-◌, ◌*◌, ◌/◌, ◌%◌, ◌<◌, ◌≤◌, ◌≡◌, Bool, not, List, [], ◌∷◌, ◌++◌, map, ◌⊎◌, eqb, length, get_or, take, drop, replicate}
-use Rattle.std.proofs.Common.{sym, subst, ◌∙◌, inl, inr, zero-add, add-zero, suc-add, add-suc, add-one, length-append, drop_of_length-le, drop-cons, get_or-take, length-take-le, refl, ap, true, false, cond, arith, lt-ltb, le-ltb, ltb-true, eqb-true, ltb}
+use Rattle.std.specs.Prelude.{ℕ, zero, suc, ◌+◌, ◌-◌, ◌*◌, ◌/◌, ◌%◌, ◌<◌, ◌≤◌, ◌≡◌, Bool, not, List, [], ◌∷◌, ◌++◌, map, ◌⊎◌, eqb, length, get_or, set, take, drop, replicate}
+use Rattle.std.proofs.Common.{sym, subst, ◌∙◌, inl, inr, zero-add, add-zero, suc-add, add-suc, add-one, length-append, drop_of_length-le, drop-cons, get_or-set_same, get_or-set_other, get_or-take, length-take-le, refl, ap, true, false, cond, arith, lt-ltb, le-ltb, ltb-true, eqb-true, ltb}
 use borrow.Author.Tests.{not-true, not-false}
 use Rattle.std.proofs.lemmas.List.{length-map, length-replicate, get_or_append_left, get_or-append_right}
 use borrow.Rule.Slice.PartMut.{put_mid}
@@ -122,6 +122,22 @@ pub record Laid (args s g : List ℕ) (m : ℕ) : Type 0 where
   pub cells : (i : ℕ) → i < m → get_or s i 0 ≡ get_or args i 0
   pub tags : (i : ℕ) → i < m → get_or g i 0 ≡ 1
 
+pub laid_none : (args s g : List ℕ) → Laid args s g 0
+laid_none args s g = record { cells = λ i h. absurd (omega arith); tags = λ i h. absurd (omega arith) }
+
+same_before : (l : List ℕ) (i v k j : ℕ) (w : ℕ → ℕ) → i < length l → k ≡ v → ((j : ℕ) → j < i → get_or l j 0 ≡ w j) → v ≡ w i → j < i + 1 → get_or (set l i k) j 0 ≡ w j
+same_before l i v k j w h e old here b = go (side j i)
+  where
+    go : (j < i) ⊎ (i ≤ j) → get_or (set l i k) j 0 ≡ w j
+    go (inl c) = get_or-set_other l i j k 0 (λ z. omega arith) ∙ old j c
+    go (inr c) = let z : j ≡ i = omega arith in rw z (get_or-set_same l i k 0 h ∙ e ∙ here)
+
+pub laid_more : (args s g : List ℕ) (m v : ℕ) → m < length s → m < length g → v ≡ get_or args m 0 → Laid args s g m → Laid args (set s m v) (set g m 1) (m + 1)
+laid_more args s g m v hs hg e h = record {
+  cells = λ i b. same_before s m v v i (λ j. get_or args j 0) hs refl h.cells e b;
+  tags = λ i b. same_before g m 1 1 i (λ j. 1) hg refl h.tags refl b;
+}
+
 -- as copying and filling the front leave them
 pub laid_part : (args s g m k : List ℕ) → m ≡ args → length args ≤ length g → k ≡ replicate (length (take (length args) g)) 1 → Laid args (m ++ drop (length args) s) (k ++ drop (length args) g) (length args)
 laid_part args s g m k e l p =
@@ -140,6 +156,19 @@ laid_part args s g m k e l p =
 pub record Emptied (g g' : List ℕ) (from m : ℕ) : Type 0 where
   pub before : (i : ℕ) → i < from → get_or g' i 0 ≡ get_or g i 0
   pub zeros : (i : ℕ) → from ≤ i → i < m → get_or g' i 0 ≡ 0
+
+pub emptied_none : (g : List ℕ) (from : ℕ) → Emptied g g from from
+emptied_none g from = record { before = λ i h. refl; zeros = λ i h b. absurd (omega arith) }
+
+pub emptied_more : (g g' : List ℕ) (from m : ℕ) → from ≤ m → m < length g' → Emptied g g' from m → Emptied g (set g' m 0) from (m + 1)
+emptied_more g g' from m l b h = record {
+  before = λ i q. get_or-set_other g' m i 0 0 (λ z. omega arith) ∙ h.before i q;
+  zeros = λ i p q. go i p q (side i m);
+}
+  where
+    go : (i : ℕ) → from ≤ i → i < m + 1 → (i < m) ⊎ (m ≤ i) → get_or (set g' m 0) i 0 ≡ 0
+    go i p q (inl c) = get_or-set_other g' m i 0 0 (λ z. omega arith) ∙ h.zeros i p c
+    go i p q (inr c) = let z : i ≡ m = omega arith in rw z (get_or-set_same g' m 0 0 b)
 
 -- as filling a part leaves them
 pub emptied_part : (g k : List ℕ) (from j : ℕ) → from ≤ 32 → 32 ≤ length g → j ≡ 32 - from → k ≡ replicate (length (take j (drop from g))) 0 → Emptied g (put_mid from j g k) from 32

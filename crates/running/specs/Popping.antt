@@ -37,16 +37,17 @@ pub record Taking : Type 0 where
 abbrev pub taken_of : Popped → Taking
 taken_of p = record { ok = true; left = p.left; count = p.count }
 
-abbrev pub taking_of : Found Popped → Taking
-taking_of None = record { ok = false; left = 0; count = 0 }
-taking_of (Some p) = taken_of p
+-- of n arguments
+abbrev pub taking_of : ℕ → Found Popped → Taking
+taking_of n None = record { ok = false; left = 0; count = n }
+taking_of n (Some p) = taken_of p
 
 -- what is left once the arguments are gone: stuck unless they are there and fit
 pub record Pops (t : List ℕ) (kin : Kin) (cells w g : List ℕ) (e have : ℕ) (r : Taking) : Type 0 where
   pub is : (P : Program) (used : ℕ) → Parents P t kin.at kin.count → (k : List Val → List Val → Result)
       → pop_arguments P (heap cells used) (reverse (params_in t e)) [] (ops_of w g have) k
       ≡ only r.ok (k (locs_from w g (32 + r.left) r.count) (ops_of w g r.left))
-  pub count : r.ok ≡ true → r.count ≡ length (params_in t e)
+  pub count : r.count ≡ length (params_in t e)
   pub all : r.ok ≡ true → r.left + r.count ≡ have
 
 -- ---- arguments from the last to the first
@@ -89,10 +90,10 @@ module _ (t : List ℕ) (kin : Kin) (cells w g : List ℕ) (e have n : ℕ) (l :
   unfolding params_in codes_in
   types = ap (listed at) (sym (l ∙ params-length t e))
 
-  pub pops_few : have < n → Pops t kin cells w g e have (taking_of None)
+  pub pops_few : have < n → Pops t kin cells w g e have (record { ok = false; left = 0; count = n })
   pops_few h = record {
     is = λ P used p k. rw types (pop_few P (heap cells used) w g at have n [] k h);
-    count = λ q. absurd (let z : false ≡ true = q in not_so z);
+    count = l;
     all = λ q. absurd (let z : false ≡ true = q in not_so z);
   }
 
@@ -104,7 +105,7 @@ module _ (t : List ℕ) (kin : Kin) (cells w g : List ℕ) (e have n : ℕ) (l :
       let z : at i ≡ get_or (params_in t e) i dint = sym (ap (λ (ds : List Desc). get_or ds i dint) types ∙ listed_at at n i dint h) in
       rw z (sym (fits_here cells used (value_fits (lineage t kin.at kin.count) (heap cells 0) (get_or (params_in t e) i dint) v) P t kin.at kin.count p (get_or (params_in t e) i dint) v refl))
 
-  pops_all : (ok : Bool) → n ≤ have → ok ≡ all_of (param_fits (lineage t kin.at kin.count) t e cells w g (have - n)) n
+  pub pops_all : (ok : Bool) → n ≤ have → ok ≡ all_of (param_fits (lineage t kin.at kin.count) t e cells w g (have - n)) n
       → Pops t kin cells w g e have (record { ok = ok; left = have - n; count = n })
   pops_all ok h q = record {
     is = λ P used p k.
@@ -117,21 +118,25 @@ module _ (t : List ℕ) (kin : Kin) (cells w g : List ℕ) (e have n : ℕ) (l :
           all_same (λ i. value_fits P (heap cells used) (at i) (val_at w g (32 + (have - n) + i))) (param_fits (lineage t kin.at kin.count) t e cells w g (have - n)) n (λ i y. one-fits P used (have - n) i p y),
           append-nil (locs_from w g (32 + (have - n)) n),
         ));
-    count = λ y. l;
+    count = l;
     all = λ y. omega arith;
   }
 
+  -- as a refusal is read back
+  pub pops_none : Pops t kin cells w g e have (record { ok = false; left = 0; count = n }) → Pops t kin cells w g e have (taking_of (length (params_in t e)) None)
+  pops_none z = subst (λ (m : ℕ). Pops t kin cells w g e have (record { ok = false; left = 0; count = m })) l z
+
   module _ (ok : Bool) (h : n ≤ have) (q : ok ≡ all_of (param_fits (lineage t kin.at kin.count) t e cells w g (have - n)) n) where
-    pub pops_unfit : not ok ≡ true → Pops t kin cells w g e have (taking_of None)
+    pub pops_unfit : not ok ≡ true → Pops t kin cells w g e have (taking_of (length (params_in t e)) None)
     pops_unfit f =
         let z : Pops t kin cells w g e have (record { ok = false; left = have - n; count = n }) = subst (λ (v : Bool). Pops t kin cells w g e have (record { ok = v; left = have - n; count = n })) (not-true ok f) (pops_all ok h q) in
-        record {
+        pops_none (record {
           is = z.is;
-          count = λ y. absurd (let z : false ≡ true = y in not_so z);
+          count = l;
           all = λ y. absurd (let z : false ≡ true = y in not_so z);
-        }
+        })
 
-    pub pops_fit : not ok ≡ false → Pops t kin cells w g e have (taking_of (Some (record { left = have - n; count = n })))
+    pub pops_fit : not ok ≡ false → Pops t kin cells w g e have (taken_of (record { left = have - n; count = n }))
     pops_fit f = subst (λ (v : Bool). Pops t kin cells w g e have (record { ok = v; left = have - n; count = n })) (not-false ok f) (pops_all ok h q)
 
 -- ---- how many results

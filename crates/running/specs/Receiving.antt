@@ -216,6 +216,7 @@ module _ (b t s g : List ℕ) (x : Site) (d : ℕ) (k : Frame) (m : Callee) (h :
               is = λ y used a. rw i (sym (init_is y used a ∙ rw (not-false q f, lt-ltb m.owner 11 l) (gone y used a)));
               stands = standing-turn b n t s g s g d k after h.at.standing h.at.standing.lent refl refl refl (omega (arith, w, h.at.standing.running.operands)) h.at.call.behind;
               kept = tt;
+              one = tt;
               besides = besides_none records 384 t;
             }
               where
@@ -319,7 +320,7 @@ module _ (b t s g : List ℕ) (x : Site) (d : ℕ) (k : Frame) (m : Callee) (h :
 
           pub own_enterable : Enterable b x.classes t s g d k path
           own_enterable =
-              init_enterable b t s g x d k m h cells p got yes o v ev q eq f l (z.count yes ∙ ap length (sym (params_are b x.classes t h.at.standing.ready m.owner m.index in_rows))) (z.all yes)
+              init_enterable b t s g x d k m h cells p got yes o v ev q eq f l (z.count ∙ ap length (sym (params_are b x.classes t h.at.standing.ready m.owner m.index in_rows))) (z.all yes)
               (rw (results_are b x.classes t h.at.standing.ready m.owner m.index in_rows) (results_few (front t) (entry_at m.owner m.index)))
 
           pub own_into : (t' s' g' : List ℕ) (r : Going) → Into b x.classes t s g t' s' g' d k path r → Called b x.classes t s g cells t' s' g' cells d k r tell

@@ -1,6 +1,7 @@
 -- An instruction that calls, whichever of the three it is. Assumes nothing.
-use Rattle.std.specs.Prelude.{refl, Ok, Err, None, ℕ, ◌+◌, ◌<◌, ◌≤◌, ◌≡◌, List, length}
+use Rattle.std.specs.Prelude.{refl, Ok, Err, ℕ, not, true, ◌+◌, ◌<◌, ◌≤◌, ◌≡◌, List, length}
 use Rattle.std.proofs.Common.{sym, ap, ◌∙◌, arith, subst}
+use Rattle.std.proofs.lemmas.Bool.{not-true}
 use Rattle.reader.specs.TypeCodes.{results_in}
 use Rattle.rules.specs.InstructionWords.{call_of}
 use Rattle.rules.specs.Known.{callee_in}
@@ -18,7 +19,7 @@ use Rattle.plain.specs.declared.frames.Frame.{Frame}
 use Rattle.plain.specs.CallSteps.{Going}
 use Rattle.plain.specs.declared.window.Halt.TheVariants.{Stuck}
 use Rattle.running.specs.declared.popping.Popped.{Popped}
-use Rattle.running.specs.Popping.{taken_of, taking_of, Pops, kin_of}
+use Rattle.running.specs.Popping.{Taking, taken_of, Pops, kin_of}
 use Rattle.running.specs.Calling.{Called, Calling, entry_at, entry_small, StaticCall, static_by, static_of, static_entry, static_unfit, static_enterable, static_into}
 use Rattle.running.specs.Receiving.{InitCall, init_by, own-entry, own_unfit}
 use Rattle.running.specs.Virtual.{VirtualCall, virtual_by, virtual_unfit}
@@ -105,13 +106,13 @@ module _ (b t s g : List ℕ) (x : Site) (d : ℕ) (k : Frame) where
       (static_enterable b t s g x d k m h cells (taken_of p) z.pops v w refl l) (static_into b t s g x d k m h cells (taken_of p) z.pops v w refl l)
 
   -- its arguments did not fit
-  pub call_unfit : (i : Call) → CallReady b t s g x d k i → 11 ≤ (callee_in i).owner → (cells : List ℕ)
-      → Pops (front t) (kin_of x.classes) cells (window_at s d) (window_at g d) (entry_at (callee_in i).owner (callee_in i).index) k.operands (taking_of None)
+  pub call_unfit : (i : Call) → CallReady b t s g x d k i → 11 ≤ (callee_in i).owner → (cells : List ℕ) (p : Taking)
+      → Pops (front t) (kin_of x.classes) cells (window_at s d) (window_at g d) (entry_at (callee_in i).owner (callee_in i).index) k.operands p → not p.ok ≡ true
       → Called b x.classes t s g cells t s g cells d k (Err Stuck) (call_by b t s g x d k i)
   unfolding call_by execute
-  call_unfit (Virtual m) h l cells z = virtual_unfit b t s g x d k m h cells (taking_of None) z refl
-  call_unfit (Special m) h l cells z = own_unfit b t s g x d k m h l cells (taking_of None) z refl
-  call_unfit (Static m) h l cells z = static_unfit b t s g x d k m h cells (taking_of None) z refl
+  call_unfit (Virtual m) h l cells p z e = virtual_unfit b t s g x d k m h cells p z (not-true p.ok e)
+  call_unfit (Special m) h l cells p z e = own_unfit b t s g x d k m h l cells p z (not-true p.ok e)
+  call_unfit (Static m) h l cells p z e = static_unfit b t s g x d k m h cells p z (not-true p.ok e)
 
   -- what is asked of it by that variant
   module _ (i : Call) (m : Callee) (h : CallReady b t s g x d k i) where

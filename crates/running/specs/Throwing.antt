@@ -7,6 +7,7 @@ use Rattle.std.proofs.Math.Seq.{take-set-lt}
 use Rattle.kit.specs.Lists.{length_part}
 use Rattle.kit.specs.Pick.{side}
 use Rattle.classfiles.specs.Descriptors.{cls}
+use Rattle.reader.specs.BuiltIns.{null_pointer}
 use Rattle.reader.specs.Program.{Program, method}
 use Rattle.rules.specs.Opcodes.{body}
 use Rattle.rules.specs.Sites.{front}
@@ -82,6 +83,13 @@ unreturned (Uncaught c) = Unit {0}
 unreturned NoRoom = Unit {0}
 unreturned NoDepth = Unit {0}
 unreturned NoWay = Unit {0}
+
+-- of all faults, that of null alone
+abbrev pub null_only : Halt → Type 0
+null_only (Fault c) = c ≡ null_pointer
+null_only HeapFull = Unit {0}
+null_only DepthFull = Unit {0}
+null_only Stuck = Unit {0}
 
 abbrev pub ending : End → ℕ → Ended
 ending e used = record { end = e; used = used }

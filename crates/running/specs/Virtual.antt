@@ -126,7 +126,7 @@ module _ (b t s g : List ℕ) (x : Site) (d : ℕ) (k : Frame) (m : Callee) wher
           pub virtual_received : Received b t s g x d k m (p.left - 1) (p.count + 1)
           virtual_received = record {
             call = h;
-            args = omega (arith, z.count e, ap length (params_are b x.classes t h.at.standing.ready m.owner m.index h.of));
+            args = omega (arith, z.count, ap length (params_are b x.classes t h.at.standing.ready m.owner m.index h.of));
             operands = omega (arith, z.all e, o);
             room = omega (arith, long, l, stack_is b t s g x d k h.at);
           }
@@ -138,6 +138,7 @@ module _ (b t s g : List ℕ) (x : Site) (d : ℕ) (k : Frame) (m : Callee) wher
             is = λ y used a. q.is y used a ∙ sym (virtual_is y used a ∙ rw (le-leb (length N.results + (p.left - 1)) x.stack (omega (arith, long, l))) (same y));
             stands = q.stands;
             kept = q.kept;
+            one = q.one;
             besides = q.besides;
           }
             where
@@ -201,7 +202,7 @@ module _ (b t s g : List ℕ) (x : Site) (d : ℕ) (k : Frame) (m : Callee) (l n
     is-ref = refers_ref (lineage (front t) 25728 (11 + x.classes)) (heap cells 0) (cls m.named) v.tag v.cell (sym eq ∙ not-false q f)
 
     pub receive_null : v.cell ≡ 0 → Called b x.classes t s g cells t s g cells d k (Err (Fault null_pointer)) rest
-    receive_null z = called_halts b x.classes t s g cells d k rest (Fault null_pointer) (λ y used a. rest_is y used a.heap ∙ rw (not-false q f, is-ref, z))
+    receive_null z = called_halts b x.classes t s g cells d k rest (Fault null_pointer) refl (λ y used a. rest_is y used a.heap ∙ rw (not-false q f, is-ref, z))
 
     module _ (o : v.cell ≡ 0 → ⊥) (c e : ℕ) (ec : c ≡ get_or cells (v.cell - 1) 0) (ee : e ≡ get_or cells (v.cell - 1 + 1) 0) where
       object_is : (y : Here) (used : ℕ) → y.heap ≡ heap cells used

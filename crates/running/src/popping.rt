@@ -77,7 +77,7 @@ fn pop(
     have: usize,
 ) -> Option<Popped>
     requires { (have ≤ 32) × (length w.now ≡ 64) × (length g.now ≡ 64) × (e < 1024) }
-    ensures { Pops t.now kin cells.now w.now g.now e have (taking_of result) }
+    ensures { Pops t.now kin cells.now w.now g.now e have (taking_of (length (params_in t.now e)) result) }
 {
     let n = types::param_count(t, e);
     if have < n {
@@ -114,7 +114,7 @@ pub fn pop_at(
     have: usize,
 ) -> Option<Popped>
     requires { (have ≤ 32) × (length s.now ≡ 4096) × (length g.now ≡ 4096) × (187008 ≤ length t.now) × (d < 64) × (n ≤ 16) × (e < 1024) }
-    ensures { Pops (front t.now) (kin_of n) cells.now (window_at s.now d) (window_at g.now d) e have (taking_of result) }
+    ensures { Pops (front t.now) (kin_of n) cells.now (window_at s.now d) (window_at g.now d) e have (taking_of (length (params_in (front t.now) e)) result) }
 {
     let a = 64 * d;
     let z = a + 64;

@@ -1,5 +1,6 @@
 use Rattle.std.specs.Prelude.{None}
-use Rattle.std.proofs.Common.{ℕ, ◌<◌, ◌≤◌, sym, subst}
+use Rattle.std.proofs.Common.{refl, ℕ, ◌<◌, ◌≤◌, sym, subst, length}
+use Rattle.reader.specs.TypeCodes.{params_in}
 use Rattle.rules.specs.Sites.{front}
 use Rattle.rules.specs.declared.instruction.Callee.{Callee}
 use Rattle.plain.specs.Calls.{window_at}
@@ -25,7 +26,7 @@ pub way_of-requires : goal.way_of-requires
 way_of-requires c = (c.requires, subst (λ (m : Callee). 11 ≤ m.owner) c.callee-m.ensures c.if-m-lt11.false, record { pops = subst (λ (m : Callee). Pops (front c.args.t.now) (kin_of c.args.x.classes) c.args.cells.now (window_at c.args.s.now c.args.d) (window_at c.args.g.now c.args.d) (entry_at m.owner m.index) c.args.k.operands (taken_of c.in-Some.p)) c.callee-m.ensures (subst (λ (e : ℕ). Pops (front c.args.t.now) (kin_of c.args.x.classes) c.args.cells.now (window_at c.args.s.now c.args.d) (window_at c.args.g.now c.args.d) e c.args.k.operands (taken_of c.in-Some.p)) c.entry.ensures c.in-Some.ensures) })
 
 pub returns-in_default : goal.returns-in_default
-returns-in_default c = call_unfit c.args.b.now c.args.t.now c.args.s.now c.args.g.now c.args.x c.args.d c.args.k c.args.i c.requires (subst (λ (m : Callee). 11 ≤ m.owner) c.callee-m.ensures c.if-m-lt11.false) _ (subst (λ (m : Callee). Pops (front c.args.t.now) (kin_of c.args.x.classes) c.args.cells.now (window_at c.args.s.now c.args.d) (window_at c.args.g.now c.args.d) (entry_at m.owner m.index) c.args.k.operands (taking_of None)) c.callee-m.ensures (subst (λ (e : ℕ). Pops (front c.args.t.now) (kin_of c.args.x.classes) c.args.cells.now (window_at c.args.s.now c.args.d) (window_at c.args.g.now c.args.d) e c.args.k.operands (taking_of None)) c.entry.ensures c.in_default.ensures))
+returns-in_default c = call_unfit c.args.b.now c.args.t.now c.args.s.now c.args.g.now c.args.x c.args.d c.args.k c.args.i c.requires (subst (λ (m : Callee). 11 ≤ m.owner) c.callee-m.ensures c.if-m-lt11.false) _ _ (subst (λ (m : Callee). Pops (front c.args.t.now) (kin_of c.args.x.classes) c.args.cells.now (window_at c.args.s.now c.args.d) (window_at c.args.g.now c.args.d) (entry_at m.owner m.index) c.args.k.operands (taking_of (length (params_in (front c.args.t.now) (entry_at m.owner m.index))) None)) c.callee-m.ensures (subst (λ (e : ℕ). Pops (front c.args.t.now) (kin_of c.args.x.classes) c.args.cells.now (window_at c.args.s.now c.args.d) (window_at c.args.g.now c.args.d) e c.args.k.operands (taking_of (length (params_in (front c.args.t.now) e)) None)) c.entry.ensures c.in_default.ensures)) refl
 
 pub returns-in_err-way : goal.returns-in_err-way
 returns-in_err-way c = called_handed _ _ _ _ _ _ _ _ _ _ _ c.from_residual.ensures.1 c.in_err-way.ensures.is
