@@ -1,6 +1,6 @@
 -- What a part of a step answers, held against what the definition says in the context that the step has. Assumes nothing.
-use Rattle.std.specs.Prelude.{Option as Found, Some, None, Result as Answer, Ok, Err, IfOk, IfErr, OnErr, ℕ, ◌+◌, ◌≤◌, ◌≡◌, refl, List, [], length}
-use Rattle.std.proofs.Common.{sym, subst, ◌∙◌, arith}
+use Rattle.std.specs.Prelude.{Option as Found, Some, None, Result as Answer, Ok, Err, IfOk, IfErr, OnErr, ok_or, ℕ, ◌+◌, ◌≤◌, ◌≡◌, refl, List, [], length}
+use Rattle.std.proofs.Common.{sym, ap, subst, ◌∙◌, arith}
 use Rattle.classfiles.specs.Limits.{max_heap}
 use Rattle.rules.specs.Instruction.{Instr, athrow}
 use Rattle.rules.specs.Sites.{front}
@@ -17,7 +17,9 @@ use Rattle.plain.specs.CallSteps.{Runs}
 use Rattle.plain.specs.declared.frames.Frame.{Frame}
 use Rattle.plain.specs.CallSteps.{Going}
 use Rattle.plain.specs.declared.values.Value.{Value}
+use Rattle.plain.specs.declared.calls.Running.{Running}
 use Rattle.plain.specs.declared.window.Halt.{Halt}
+use Rattle.plain.specs.declared.window.Halt.TheVariants.{Fault, HeapFull, DepthFull, Stuck}
 use Rattle.running.specs.Standing.{records, machine_of, Standing}
 use Rattle.running.specs.Dispatching.{Dispatch, dispatch_kept}
 use Rattle.running.specs.Calling.{Called}
@@ -60,6 +62,32 @@ pub record Does (b : List ℕ) (n : ℕ) (t s g cells : List ℕ) (d : ℕ) (k :
   pub front : front t' ≡ front t
   pub kept : kept_by (cells' ≡ cells) used r
 
+-- an end that is neither a return nor an uncaught object
+abbrev pub stop_of : Halt → End
+stop_of HeapFull = NoRoom
+stop_of DepthFull = NoDepth
+stop_of (Fault c) = NoWay
+stop_of Stuck = NoWay
+
+pub record Stops (h : Halt) (used : ℕ) (m : Move) : Type 0 where
+  pub is : m ≡ Err (ending (stop_of h) used)
+
+module _ (h : Halt) (used : ℕ) (m : Move) where
+  pub stops_heap : h ≡ HeapFull → m ≡ Err (ending NoRoom used) → Stops h used m
+  stops_heap e q = rw e (record { is = q })
+
+  pub stops_depth : h ≡ DepthFull → m ≡ Err (ending NoDepth used) → Stops h used m
+  stops_depth e q = rw e (record { is = q })
+
+  pub stops_stuck : (h ≡ HeapFull → ⊥) → (h ≡ DepthFull → ⊥) → m ≡ Err (ending NoWay used) → Stops h used m
+  stops_stuck e f q = record { is = q ∙ sym (ap (λ (E : End). Err (ending E used)) (go h e f)) }
+    where
+      go : (h : Halt) → (h ≡ HeapFull → ⊥) → (h ≡ DepthFull → ⊥) → stop_of h ≡ NoWay
+      go HeapFull e f = absurd (e refl)
+      go DepthFull e f = absurd (f refl)
+      go (Fault c) e f = refl
+      go Stuck e f = refl
+
 module _ (b : List ℕ) (n : ℕ) (t s g cells : List ℕ) (d : ℕ) (k : Frame) (used : ℕ) (R : Result) where
   pub does_on : (t' s' g' cells' : List ℕ) (m : Moved) → next (machine_of cells' m.used t' s' g' m.depth m.call) ≡ R
       → Standing b n t' s' g' m.depth m.call → Besides records 384 t t' → Does b n t s g cells d k used t' s' g' cells' (Ok m) R
@@ -100,6 +128,11 @@ module _ (b : List ℕ) (n : ℕ) (t s g cells : List ℕ) (d : ℕ) (k : Frame)
       kept NoDepth w = (w.0.0, w.1)
       kept NoWay w = (w.0.0, w.1)
 
+-- where nothing has changed
+pub does_kept : (b : List ℕ) (n : ℕ) (t s g cells : List ℕ) (d : ℕ) (k : Frame) (used : ℕ) (R : Result) (t' s' g' cells' : List ℕ) (m : Move)
+    → t' ≡ t → s' ≡ s → g' ≡ g → cells' ≡ cells → Does b n t s g cells d k used t s g cells m R → Does b n t s g cells d k used t' s' g' cells' m R
+does_kept b n t s g cells d k used R t' s' g' cells' m et es eg ec h = rw (et, es, eg, ec) h
+
 -- ---- thrown objects
 pub athrown_by : (b : List ℕ) (n : ℕ) (t s g cells s' g' cells' : List ℕ) (d : ℕ) (k : Frame) (used : ℕ) (m : Move) (z : ℕ) → Athrows b n t cells s g cells' s' g' d k used m
     → Does b n t s g cells d k used t s' g' cells' m (executed b n t s g cells used d k z athrow)
@@ -111,23 +144,32 @@ abbrev pub cell_of : Found Value → ℕ
 cell_of None = 0
 cell_of (Some v) = to_cell (value_of v.tag v.cell)
 
-abbrev pub given_on : ℕ → Found Left → Move
-given_on used None = Err (ending NoWay used)
-given_on used (Some (Back r)) = Ok (record { depth = r.depth; call = r.call; used = used })
-given_on used (Some (Out v)) = Err (ending (Returned (cell_of v)) used)
+abbrev pub given_by : ℕ → Answer Left Halt → Move
+given_by used (Ok (Back r)) = Ok (record { depth = r.depth; call = r.call; used = used })
+given_by used (Ok (Out v)) = Err (ending (Returned (cell_of v)) used)
+given_by used (Err h) = Err (ending (stop_of h) used)
 
-pub record Given (used : ℕ) (r : Found Left) (m : Move) : Type 0 where
-  pub is : m ≡ given_on used r
+pub record Given (used : ℕ) (r : Answer Left Halt) (m : Move) : Type 0 where
+  pub is : m ≡ given_by used r
+
+pub given_on : (used : ℕ) (r : Answer Left Halt) (o : Running) (m : Move) → r ≡ Ok (Back o) → m ≡ Ok (record { depth = o.depth; call = o.call; used = used }) → Given used r m
+given_on used r o m e q = rw e (record { is = q })
+
+pub given_out : (used : ℕ) (r : Answer Left Halt) (v : Found Value) (m : Move) → r ≡ Ok (Out v) → m ≡ Err (ending (Returned (cell_of v)) used) → Given used r m
+given_out used r v m e q = rw e (record { is = q })
+
+pub given_stop : (used : ℕ) (r : Answer Left Halt) (h : Halt) (m : Move) → r ≡ Err h → Stops h used m → Given used r m
+given_stop used r h m e z = rw e (record { is = z.is })
 
 value_given : (v : Found Value) → result (given_of v) ≡ cell_of v
 value_given None = refl
 value_given (Some v) = refl
 
 pub given_does : (b : List ℕ) (n : ℕ) (t s g cells s' g' : List ℕ) (d : ℕ) (k : Frame) (used z : ℕ) (r : Found Left) (m : Move) (what : Here → Result)
-    → Leaves b n t s g cells s' g' d k r what → Given used r m → Does b n t s g cells d k used t s' g' cells m (what (here_of t s g cells used d k z))
+    → Leaves b n t s g cells s' g' d k r what → Given used (ok_or r Stuck) m → Does b n t s g cells d k used t s' g' cells m (what (here_of t s g cells used d k z))
 given_does b n t s g cells s' g' d k used z r m what h y = rw y.is (go r h)
   where
-    go : (r : Found Left) → Leaves b n t s g cells s' g' d k r what → Does b n t s g cells d k used t s' g' cells (given_on used r) (what (here_of t s g cells used d k z))
+    go : (r : Found Left) → Leaves b n t s g cells s' g' d k r what → Does b n t s g cells d k used t s' g' cells (given_by used (ok_or r Stuck)) (what (here_of t s g cells used d k z))
     go None l =
         let i : stopped stuck ≡ what (here_of t s g cells used d k z) = l.is (here_of t s g cells used d k z) used (here_runs t s g cells used d k z) refl in
         rw (l.stands.0, l.stands.1) (does_stuck b n t s g cells d k used _ i)
@@ -135,26 +177,26 @@ given_does b n t s g cells s' g' d k used z r m what h y = rw y.is (go r h)
     go (Some (Out v)) l = does_returned b n t s g cells d k used _ s' g' (cell_of v) (given_of v) (value_given v) (l.is (here_of t s g cells used d k z) used (here_runs t s g cells used d k z) refl)
 
 -- ---- an answer that goes on, or a halt
-abbrev pub after_by : List ℕ → ℕ → List ℕ → List ℕ → List ℕ → List ℕ → List ℕ → List ℕ → List ℕ → ℕ → Frame → ℕ → Move → Answer Moved Halt → Type 0
-after_by b n t s g cells s' g' cells' d k used m (Ok o) = (m ≡ Ok o) × (s' ≡ s) × (g' ≡ g) × (cells' ≡ cells)
+abbrev pub after_by : List ℕ → ℕ → List ℕ → List ℕ → List ℕ → List ℕ → List ℕ → List ℕ → List ℕ → ℕ → Frame → ℕ → Move → Answer Move Halt → Type 0
+after_by b n t s g cells s' g' cells' d k used m (Ok o) = (m ≡ o) × (s' ≡ s) × (g' ≡ g) × (cells' ≡ cells)
 after_by b n t s g cells s' g' cells' d k used m (Err h) = Faults b n t cells s g cells' s' g' d k used h m
 
-pub record After (b : List ℕ) (n : ℕ) (t s g cells s' g' cells' : List ℕ) (d : ℕ) (k : Frame) (used : ℕ) (r : Answer Moved Halt) (m : Move) : Type 0 where
+pub record After (b : List ℕ) (n : ℕ) (t s g cells s' g' cells' : List ℕ) (d : ℕ) (k : Frame) (used : ℕ) (r : Answer Move Halt) (m : Move) : Type 0 where
   pub by : after_by b n t s g cells s' g' cells' d k used m r
 
-pub after_on : (b : List ℕ) (n : ℕ) (t s g cells : List ℕ) (d : ℕ) (k : Frame) (used : ℕ) (r : Answer Moved Halt) (o : Moved) → r ≡ Ok o → After b n t s g cells s g cells d k used r (Ok o)
-after_on b n t s g cells d k used r o e = rw e (record { by = (refl, refl, refl, refl) })
+pub after_on : (b : List ℕ) (n : ℕ) (t s g cells : List ℕ) (d : ℕ) (k : Frame) (used : ℕ) (r : Answer Move Halt) (o m : Move) → r ≡ Ok o → m ≡ o → After b n t s g cells s g cells d k used r m
+after_on b n t s g cells d k used r o m e q = rw e (record { by = (q, refl, refl, refl) })
 
-pub after_halt : (b : List ℕ) (n : ℕ) (t s g cells s' g' cells' : List ℕ) (d : ℕ) (k : Frame) (used : ℕ) (r : Answer Moved Halt) (h : Halt) (m : Move) → r ≡ Err h → Faults b n t cells s g cells' s' g' d k used h m
+pub after_halt : (b : List ℕ) (n : ℕ) (t s g cells s' g' cells' : List ℕ) (d : ℕ) (k : Frame) (used : ℕ) (r : Answer Move Halt) (h : Halt) (m : Move) → r ≡ Err h → Faults b n t cells s g cells' s' g' d k used h m
     → After b n t s g cells s' g' cells' d k used r m
 after_halt b n t s g cells s' g' cells' d k used r h m e f = rw e (record { by = f })
 
 -- what it asks for: where it does not go on, the run stands
-pub record Lands (b : List ℕ) (n : ℕ) (t s g cells : List ℕ) (d : ℕ) (k : Frame) (r : Answer Moved Halt) : Type 0 where
+pub record Lands (b : List ℕ) (n : ℕ) (t s g cells : List ℕ) (d : ℕ) (k : Frame) (r : Answer Move Halt) : Type 0 where
   pub stands : OnErr r (Standing b n t s g d k)
   pub size : length cells ≤ max_heap
 
-pub lands_halt : (b : List ℕ) (n : ℕ) (t s g cells : List ℕ) (d : ℕ) (k : Frame) (r : Answer Moved Halt) (h : Halt) → r ≡ Err h → Lands b n t s g cells d k r → Standing b n t s g d k × (length cells ≤ max_heap)
+pub lands_halt : (b : List ℕ) (n : ℕ) (t s g cells : List ℕ) (d : ℕ) (k : Frame) (r : Answer Move Halt) (h : Halt) → r ≡ Err h → Lands b n t s g cells d k r → Standing b n t s g d k × (length cells ≤ max_heap)
 lands_halt b n t s g cells d k r h e z = let w : Lands b n t s g cells d k (Err h) = rw e at z in (w.stands, w.size)
 
 -- a halt where nothing has changed
@@ -170,8 +212,8 @@ halted_does b n t s g cells d k used z h R i t₁ s₁ g₁ cells₁ s' g' cells
     (does_thrown b n t s g cells d k used R s' g' cells' m (F.is (here_of t s g cells used d k z) (here_runs t s g cells used d k z) refl ∙ i) F.kept F.never F.on)
 
 -- ---- calls
-abbrev pub going_on : ℕ → Going → Answer Moved Halt
-going_on used (Ok r) = Ok (record { depth = r.depth; call = r.call; used = used })
+abbrev pub going_on : ℕ → Going → Answer Move Halt
+going_on used (Ok r) = Ok (Ok (record { depth = r.depth; call = r.call; used = used }))
 going_on used (Err h) = Err h
 
 module _ (b : List ℕ) (n : ℕ) (t s g cells t' s₁ g₁ cells₁ s' g' cells' : List ℕ) (d : ℕ) (k : Frame) (used : ℕ) (m : Move) (what : Here → Result) where
@@ -182,11 +224,11 @@ module _ (b : List ℕ) (n : ℕ) (t s g cells t' s₁ g₁ cells₁ s' g' cells
   called_goes (Err i) h y =
       halted_does b n t s g cells d k used 3 i _ (h.is (here_of t s g cells used d k 3) used (record { runs = here_runs t s g cells used d k 3; heap = refl; after = refl })) t' s₁ g₁ cells₁ s' g' cells' m h.kept.0 h.kept.1 h.kept.2 h.kept.3 y.by
 
-  pub called_does : (r : Going) → Called b n t s g cells t' s₁ g₁ cells₁ d k r what → (o : Answer Moved Halt) → o ≡ going_on used r
+  pub called_does : (r : Going) → Called b n t s g cells t' s₁ g₁ cells₁ d k r what → (o : Answer Move Halt) → o ≡ going_on used r
       → After b n t' s₁ g₁ cells₁ s' g' cells' d k used o m → Does b n t s g cells d k used t' s' g' cells' m (what (here_of t s g cells used d k 3))
-  called_does r h o e y = called_goes r h (subst (λ (u : Answer Moved Halt). After b n t' s₁ g₁ cells₁ s' g' cells' d k used u m) e y)
+  called_does r h o e y = called_goes r h (subst (λ (u : Answer Move Halt). After b n t' s₁ g₁ cells₁ s' g' cells' d k used u m) e y)
 
-pub called_lands : (b : List ℕ) (n : ℕ) (t s g cells t' s₁ g₁ cells₁ : List ℕ) (d : ℕ) (k : Frame) (used : ℕ) (r : Going) (what : Here → Result) (o : Answer Moved Halt) → o ≡ going_on used r → Called b n t s g cells t' s₁ g₁ cells₁ d k r what
+pub called_lands : (b : List ℕ) (n : ℕ) (t s g cells t' s₁ g₁ cells₁ : List ℕ) (d : ℕ) (k : Frame) (used : ℕ) (r : Going) (what : Here → Result) (o : Answer Move Halt) → o ≡ going_on used r → Called b n t s g cells t' s₁ g₁ cells₁ d k r what
     → Standing b n t s g d k → length cells ≤ max_heap → length cells₁ ≡ length cells → Lands b n t' s₁ g₁ cells₁ d k o
 called_lands b n t s g cells t' s₁ g₁ cells₁ d k used r what o e h z l q = rw e (go r h)
   where

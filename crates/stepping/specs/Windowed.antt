@@ -28,7 +28,6 @@ use Rattle.running.specs.Standing.{records, machine_of, Standing, standing-turn,
 use Rattle.running.specs.Throws.{stack_is}
 use Rattle.running.specs.Calling.{parents_of}
 use Rattle.running.specs.Throwing.{Move}
-use Rattle.running.specs.declared.ends.Moved.{Moved}
 use Rattle.stepping.specs.Turning.{Stays, turn_low}
 use Rattle.stepping.specs.Moves.{here_of, executed, Does, does_on, halted_does, After, Lands}
 
@@ -47,8 +46,8 @@ place_of x k used z = record { operands = k.operands; most = x.stack; locals = k
 abbrev pub after_of : Frame → Onward → Frame
 after_of k r = record { class = k.class; method = k.method; offset = r.at; own = k.own; operands = r.operands; locals = k.locals }
 
-abbrev pub turn_on : ℕ → Frame → Turn → Answer Moved Halt
-turn_on d k (Ok r) = Ok (record { depth = d; call = after_of k r; used = r.used })
+abbrev pub turn_on : ℕ → Frame → Turn → Answer Move Halt
+turn_on d k (Ok r) = Ok (Ok (record { depth = d; call = after_of k r; used = r.used }))
 turn_on d k (Err h) = Err h
 
 -- a slice whose window at depth d came back as m
@@ -164,21 +163,21 @@ module _ (b t s g cells : List ℕ) (x : Site) (d : ℕ) (k : Frame) (z : ℕ) (
     lv64 : length v' ≡ 64
     lv64 = lv ∙ ap (λ (i : ℕ). length (take i (drop (64 * d) g))) eq ∙ length_window g h.standing.lent.tags
 
-    pub part_lands : length cells₁ ≡ length cells → (o : Answer Moved Halt) → o ≡ turn_on d k r → Lands b n t (put_window s p d w') (put_window g q d v') cells₁ d k o
+    pub part_lands : length cells₁ ≡ length cells → (o : Answer Move Halt) → o ≡ turn_on d k r → Lands b n t (put_window s p d w') (put_window g q d v') cells₁ d k o
     part_lands l o e = rw e (go r)
       where
         go : (r : Turn) → Lands b n t (put_window s p d w') (put_window g q d v') cells₁ d k (turn_on d k r)
         go (Ok r) = record { stands = tt; size = omega (arith, l, h.size) }
         go (Err i) = record { stands = rw (ep, eq) (still K kp used I low w' v' cells₁ lw64 lv64); size = omega (arith, l, h.size) }
 
-    pub part_does : (s' g' cells' : List ℕ) (o : Answer Moved Halt) (m : Move) → o ≡ turn_on d k r
+    pub part_does : (s' g' cells' : List ℕ) (o : Answer Move Halt) (m : Move) → o ≡ turn_on d k r
         → After b n t (put_window s p d w') (put_window g q d v') cells₁ s' g' cells' d k used o m
         → Does b n t s g cells d k used t s' g' cells' m (executed b n t s g cells used d k z I)
     part_does s' g' cells' o m eo a =
         turn_does K kp used I low w' v' cells₁ lw64 lv64 s' g' cells' m r there
         (subst (λ (i : ℕ). After b n t (put_window s i d w') (put_window g 64 d v') cells₁ s' g' cells' d k used (turn_on d k r) m) ep
         (subst (λ (i : ℕ). After b n t (put_window s p d w') (put_window g i d v') cells₁ s' g' cells' d k used (turn_on d k r) m) eq
-        (subst (λ (u : Answer Moved Halt). After b n t (put_window s p d w') (put_window g q d v') cells₁ s' g' cells' d k used u m) eo a)))
+        (subst (λ (u : Answer Move Halt). After b n t (put_window s p d w') (put_window g q d v') cells₁ s' g' cells' d k used u m) eo a)))
 
   -- with the parents' numbers at hand, as every group but `new` asks
   abbrev pub Kin : Program → Type 0
@@ -190,10 +189,10 @@ module _ (b t s g cells : List ℕ) (x : Site) (d : ℕ) (k : Frame) (z : ℕ) (
   module _ (used : ℕ) (c : Place) (ec : c ≡ place_of x k used z) (I : Instr) (low : Stays I) (p q : ℕ) (ep : p ≡ 64) (eq : q ≡ 64) (w' v' : List ℕ) where
     module _ (cells₁ : List ℕ) (r : Turn) (y : TurnOf Kin c I p q w' v' cells₁ r)
         (lw : length w' ≡ length (take p (drop (64 * d) s))) (lv : length v' ≡ length (take q (drop (64 * d) g))) where
-      pub kin_lands : length cells₁ ≡ length cells → (o : Answer Moved Halt) → o ≡ turn_on d k r → Lands b n t (put_window s p d w') (put_window g q d v') cells₁ d k o
+      pub kin_lands : length cells₁ ≡ length cells → (o : Answer Move Halt) → o ≡ turn_on d k r → Lands b n t (put_window s p d w') (put_window g q d v') cells₁ d k o
       kin_lands = part_lands Kin kin_here used c ec I low p q ep eq w' v' cells₁ r y lw lv
 
-      pub kin_does : (s' g' cells' : List ℕ) (o : Answer Moved Halt) (m : Move) → o ≡ turn_on d k r
+      pub kin_does : (s' g' cells' : List ℕ) (o : Answer Move Halt) (m : Move) → o ≡ turn_on d k r
           → After b n t (put_window s p d w') (put_window g q d v') cells₁ s' g' cells' d k used o m
           → Does b n t s g cells d k used t s' g' cells' m (executed b n t s g cells used d k z I)
       kin_does = part_does Kin kin_here used c ec I low p q ep eq w' v' cells₁ r y lw lv
@@ -204,22 +203,22 @@ module _ (b t s g cells : List ℕ) (x : Site) (d : ℕ) (k : Frame) (z : ℕ) (
       with_heap : TurnOf Kin c I p q w' v' cells r
       with_heap = windowed Kin c (take p (drop (64 * d) s)) (take q (drop (64 * d) g)) cells w' v' r (doing (take p (drop (64 * d) s)) (take q (drop (64 * d) g)) c.operands I) y
 
-      pub goes_lands : (o : Answer Moved Halt) → o ≡ turn_on d k r → Lands b n t (put_window s p d w') (put_window g q d v') cells d k o
+      pub goes_lands : (o : Answer Move Halt) → o ≡ turn_on d k r → Lands b n t (put_window s p d w') (put_window g q d v') cells d k o
       goes_lands = kin_lands cells r with_heap lw lv refl
 
-      pub goes_does : (s' g' cells' : List ℕ) (o : Answer Moved Halt) (m : Move) → o ≡ turn_on d k r
+      pub goes_does : (s' g' cells' : List ℕ) (o : Answer Move Halt) (m : Move) → o ≡ turn_on d k r
           → After b n t (put_window s p d w') (put_window g q d v') cells s' g' cells' d k used o m
           → Does b n t s g cells d k used t s' g' cells' m (executed b n t s g cells used d k z I)
       goes_does = kin_does cells r with_heap lw lv
 
   -- where the window was only read
-  pub read_lands : (o : Answer Moved Halt) → Lands b n t s g cells d k o
+  pub read_lands : (o : Answer Move Halt) → Lands b n t s g cells d k o
   read_lands (Ok o) = record { stands = tt; size = h.size }
   read_lands (Err i) = record { stands = h.standing; size = h.size }
 
   pub read_does : (used : ℕ) (c : Place) → c ≡ place_of x k used z → (I : Instr) → Stays I → (p q : ℕ) → p ≡ 64 → q ≡ 64 → (r : Turn)
       → TurnOf Kin c I p q (take p (drop (64 * d) s)) (take q (drop (64 * d) g)) cells r
-      → (s' g' cells' : List ℕ) (o : Answer Moved Halt) (m : Move) → o ≡ turn_on d k r → After b n t s g cells s' g' cells' d k used o m
+      → (s' g' cells' : List ℕ) (o : Answer Move Halt) (m : Move) → o ≡ turn_on d k r → After b n t s g cells s' g' cells' d k used o m
       → Does b n t s g cells d k used t s' g' cells' m (executed b n t s g cells used d k z I)
   read_does used c ec I low p q ep eq r y s' g' cells' o m eo a =
       kin_does used c ec I low p q ep eq (take p (drop (64 * d) s)) (take q (drop (64 * d) g)) cells r y refl refl s' g' cells' o m eo
@@ -233,10 +232,10 @@ module _ (b t s g cells : List ℕ) (x : Site) (d : ℕ) (k : Frame) (z : ℕ) (
   module _ (i size : ℕ) (es : size ≡ length (layout (program_now b n t) i)) (used : ℕ) (c : Place) (ec : c ≡ place_of x k used z) (p q : ℕ) (ep : p ≡ 64) (eq : q ≡ 64)
       (w' v' cells₁ : List ℕ) (r : Turn) (y : TurnOf (Sizing size i) c (new i) p q w' v' cells₁ r)
       (lw : length w' ≡ length (take p (drop (64 * d) s))) (lv : length v' ≡ length (take q (drop (64 * d) g))) where
-    pub make_lands : length cells₁ ≡ length cells → (o : Answer Moved Halt) → o ≡ turn_on d k r → Lands b n t (put_window s p d w') (put_window g q d v') cells₁ d k o
+    pub make_lands : length cells₁ ≡ length cells → (o : Answer Move Halt) → o ≡ turn_on d k r → Lands b n t (put_window s p d w') (put_window g q d v') cells₁ d k o
     make_lands = part_lands (Sizing size i) es used c ec (new i) tt p q ep eq w' v' cells₁ r y lw lv
 
-    pub make_does : (s' g' cells' : List ℕ) (o : Answer Moved Halt) (m : Move) → o ≡ turn_on d k r
+    pub make_does : (s' g' cells' : List ℕ) (o : Answer Move Halt) (m : Move) → o ≡ turn_on d k r
         → After b n t (put_window s p d w') (put_window g q d v') cells₁ s' g' cells' d k used o m
         → Does b n t s g cells d k used t s' g' cells' m (executed b n t s g cells used d k z (new i))
     make_does = part_does (Sizing size i) es used c ec (new i) tt p q ep eq w' v' cells₁ r y lw lv

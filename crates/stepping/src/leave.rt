@@ -5,6 +5,7 @@ ghost use Rattle.stepping.specs.Windowed.{Before};
 
 use crate::{moves, returning};
 use plain::frames::Frame;
+use plain::window::Halt;
 use rules::instruction::Leave;
 use rules::site::Site;
 use running::ends::Move;
@@ -29,10 +30,13 @@ pub fn leave(
 {
     let ints = match i {
         Leave::Athrow => return athrow::athrow(b, t, cells, s, g, x.classes, d, k, used),
-        Leave::Return => return moves::given(leaving::leave(b, t, s, g, cells, x, d, k), used),
+        Leave::Return => {
+            let r = leaving::leave(b, t, s, g, cells, x, d, k);
+            return moves::given(r.ok_or(Halt::Stuck), used);
+        }
         Leave::Areturn => false,
         Leave::Ireturn => true,
     };
     let r = returning::leave_with(b, t, s, g, cells, x, d, k, ints);
-    moves::given(r, used)
+    moves::given(r.ok_or(Halt::Stuck), used)
 }

@@ -1,6 +1,6 @@
 // How what a part of a step answers goes on.
 ghost use Rattle.std.specs.Prelude.{◌≡◌};
-ghost use Rattle.stepping.specs.Moves.{After, Lands, Given, going_on, cell_of};
+ghost use Rattle.stepping.specs.Moves.{After, Lands, Given, Stops, going_on, cell_of};
 
 use plain::calls::Going;
 use plain::frames::Frame;
@@ -10,16 +10,16 @@ use running::ends::{End, Ended, Move, Moved};
 use running::leaving::Left;
 use running::throwing;
 
-// The heap is used as far as before.
-pub fn onto(r: Going, used: u32) -> Result<Moved, Halt>
+// On, where the heap is used as far as before, or the halt.
+pub fn onto(r: Going, used: u32) -> Result<Move, Halt>
     ensures { result ≡ going_on used r }
 {
     match r {
-        Ok(r) => Ok(Moved {
+        Ok(r) => Ok(Ok(Moved {
             depth: r.depth,
             call: r.call,
             used,
-        }),
+        })),
         Err(h) => Err(h),
     }
 }
@@ -34,29 +34,50 @@ fn cell(v: Option<Value>) -> u32
     }
 }
 
-pub fn given(r: Option<Left>, used: u32) -> Move
-    ensures { Given used r result }
+// Heap full, depth full, or stuck.
+pub fn stop(h: Halt, used: u32) -> Move
+    ensures { Stops h used result }
 {
-    let Some(left) = r else {
-        return Err(Ended {
-            end: End::Stuck,
-            used,
-        });
-    };
-    match left {
-        Left::Back(r) => Ok(Moved {
-            depth: r.depth,
-            call: r.call,
+    match h {
+        Halt::HeapFull => Err(Ended {
+            end: End::HeapFull,
             used,
         }),
-        Left::Out(v) => Err(Ended {
-            end: End::Returned(cell(v)),
+        Halt::DepthFull => Err(Ended {
+            end: End::DepthFull,
+            used,
+        }),
+        Halt::Fault(_) => Err(Ended {
+            end: End::Stuck,
+            used,
+        }),
+        Halt::Stuck => Err(Ended {
+            end: End::Stuck,
             used,
         }),
     }
 }
 
-// On as said, or what the halt comes to.
+pub fn given(r: Result<Left, Halt>, used: u32) -> Move
+    ensures { Given used r result }
+{
+    match r {
+        Ok(left) => match left {
+            Left::Back(r) => Ok(Moved {
+                depth: r.depth,
+                call: r.call,
+                used,
+            }),
+            Left::Out(v) => Err(Ended {
+                end: End::Returned(cell(v)),
+                used,
+            }),
+        },
+        Err(h) => stop(h, used),
+    }
+}
+
+// As said, or what the halt comes to.
 pub fn after(
     b: &[u8],
     t: &[u8],
@@ -67,13 +88,13 @@ pub fn after(
     d: usize,
     k: Frame,
     used: u32,
-    r: Result<Moved, Halt>,
+    r: Result<Move, Halt>,
 ) -> Move
     requires { Lands b.now n t.now s.old g.old cells.old d k r }
     ensures { After b.now n t.now s.old g.old cells.old s.new g.new cells.new d k used r result }
 {
     match r {
-        Ok(m) => Ok(m),
+        Ok(m) => m,
         Err(h) => throwing::halted(b, t, cells, s, g, n, d, k, used, h),
     }
 }

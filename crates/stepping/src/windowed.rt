@@ -32,12 +32,12 @@ fn place(x: Site, k: Frame, used: u32, z: usize) -> Place
 }
 
 // The call k where a turn of its window goes on.
-fn onto(d: usize, k: Frame, r: Turn) -> Result<Moved, Halt>
+fn onto(d: usize, k: Frame, r: Turn) -> Result<Move, Halt>
     requires { operands_of r ≤ 32 }
     ensures { result ≡ turn_on d k r }
 {
     match r {
-        Ok(r) => Ok(Moved {
+        Ok(r) => Ok(Ok(Moved {
             depth: d,
             call: Frame {
                 class: k.class,
@@ -48,7 +48,7 @@ fn onto(d: usize, k: Frame, r: Turn) -> Result<Moved, Halt>
                 locals: k.locals,
             },
             used: r.used,
-        }),
+        })),
         Err(h) => Err(h),
     }
 }
