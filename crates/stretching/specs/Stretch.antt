@@ -61,7 +61,7 @@ pub record Stretched (b t code : List ℕ) (y : Ground) (from : Spot) (w g cells
   pub left : q.left ≤ from.left
   pub room : q.operands ≤ 32
 
-stretch_start : (b t code : List ℕ) (y : Ground) (from : Spot) (w g cells : List ℕ) → from.operands ≤ 32 → Stretched b t code y from w g cells w g cells from
+pub stretch_start : (b t code : List ℕ) (y : Ground) (from : Spot) (w g cells : List ℕ) → from.operands ≤ 32 → Stretched b t code y from w g cells w g cells from
 stretch_start b t code y from w g cells h = record {
   reached = λ P c j self ks f low. record {
     is = λ m. let e : m + (from.left - from.left) ≡ m = omega arith in ap (λ (i : ℕ). run P from.left i (machine_at y c j self ks from w g cells)) (sym e);
