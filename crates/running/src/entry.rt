@@ -46,14 +46,15 @@ pub fn is_entry(b: &[u8], t: &[u8], n: usize, i: usize, j: usize) -> bool
     all_ints(t, 64 * i + j)
 }
 
-// The arguments as numbers, from the first slot on.
+// The arguments as numbers, from the first slot on. One by one: a slice copied whole would have the archive for C ask for memmove.
 fn lay(s: &mut [u32], g: &mut [u8], args: &[u32])
     requires { (length args.now ≤ length s.old) × (length args.now ≤ length g.old) }
     ensures { Laid args.now s.new g.new (length args.now) }
 {
-    let n = args.len();
-    s[..n].copy_from_slice(args);
-    g[..n].fill(Value::NUM);
+    for i in 0..args.len() {
+        s[i] = args[i];
+        g[i] = Value::NUM;
+    }
 }
 
 // Empty locals behind them: the tag alone says so.
