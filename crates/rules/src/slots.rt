@@ -1,5 +1,5 @@
 // A state in lent words: what each function does to the state that the words mean.
-ghost use Rattle.std.specs.Prelude.{is_some, ◌≡◌, false, [], ◌∷◌, ◌+◌, ◌-◌, ◌<◌, ◌≤◌, ◌/◌, leb, length, get_or};
+ghost use Rattle.std.specs.Prelude.{ℕ, is_some, ◌≡◌, false, [], ◌∷◌, ◌+◌, ◌-◌, ◌<◌, ◌≤◌, ◌/◌, leb, length, get_or};
 ghost use Rattle.kit.specs.Claims.{ruled, verdict, claim};
 ghost use Rattle.texts.specs.Faults.{number};
 ghost use Rattle.rules.specs.Types.{top, fits};
@@ -21,10 +21,23 @@ pub struct Held {
     pub flag: bool,
 }
 
+// What a demand is refused by stands for a number.
+pub trait Label: Copy {
+    ghost label: { Self → ℕ };
+}
+
+impl Label for Refusal {
+    ghost label = { number };
+}
+
+impl Label for u32 {
+    ghost label = { λ n. n };
+}
+
 // A demand: where it is not met, that refusal.
 #[tactic(auto, using(crate::specs::SlotLaws::leaves))]
-pub fn must(ok: bool, refusal: Refusal) -> Result<(), Refusal>
-    ensures { ruled number result ≡ verdict (claim (number refusal) ok ∷ []) }
+pub fn must<R: Label>(ok: bool, refusal: R) -> Result<(), R>
+    ensures { ruled R.label result ≡ verdict (claim (R.label refusal) ok ∷ []) }
 {
     if ok {
         return Ok(());
