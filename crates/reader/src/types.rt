@@ -120,9 +120,9 @@ pub fn is_known(n: usize, code: usize) -> bool
 // Types one after the other: how many codes were kept, whether all are known, and the position past them.
 #[derive(Clone, Copy)]
 pub struct Listed {
-    known: bool,
-    count: usize,
-    at: usize,
+    pub known: bool,
+    pub count: usize,
+    pub at: usize,
 }
 
 // One more code behind `count` of them from byte w on, unless sixteen are there.
