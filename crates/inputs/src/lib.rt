@@ -1,4 +1,4 @@
-// What the programs take from outside: arguments, files and streams.
+// What the programs take from outside: arguments, files and streams; and a line of what failed.
 #![tactic(auto)]
 
 ghost use Rattle.std.specs.Prelude.{◌≤◌, length, IfOk, IfSome, IsOk, IsUtf8};
@@ -7,6 +7,9 @@ use std::env::FillError;
 use std::io::Read;
 use std::rt::{Env, Files};
 use std::{fs, io};
+
+#[cfg(test)]
+mod tests;
 
 // Reads until the buffer is full or the input ends. By `while`, since a step is as long as what was read.
 pub fn read_full(input: &mut impl Read, buf: &mut [u8]) -> io::Result<usize>
@@ -50,4 +53,10 @@ pub fn argument(env: &impl Env, i: usize, path: &mut [u8]) -> Option<usize>
         Err(FillError::TooLong) => Some(0),
         Err(FillError::NotPresent) => None,
     }
+}
+
+// A line of what failed: the file's name, a colon and the error.
+pub fn complain(errors: &impl Print, path: &[u8], e: io::Error) -> io::Result<()> {
+    errors.write_all(path)?;
+    println!(errors; ": {e}")
 }
