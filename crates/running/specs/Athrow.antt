@@ -36,11 +36,16 @@ abbrev pub thrown_of : Program → Here → Answer Thrown Halt → Result
 thrown_of P x (Ok r) = throw P x r.object r.class
 thrown_of P x (Err h) = halt_of P x h
 
-pub record Checks (n : ℕ) (t cells s g : List ℕ) (d : ℕ) (k : Frame) (r : Answer Thrown Halt) : Type 0 where
+-- what the check answers is what athrow comes to
+pub record ChecksBy (F : Halt → Type 0) (n : ℕ) (t cells s g : List ℕ) (d : ℕ) (k : Frame) (r : Answer Thrown Halt) : Type 0 where
   pub is : (P : Program) (x : Here) (used : ℕ) → Parents P (front t) 25728 (first_class + n) → x.heap ≡ heap cells used
       → thrown_of P x r ≡ execute P x (ops_of (window_at s d) (window_at g d) k.operands) athrow
-  -- its only fault
-  pub one : IfErr r null_only
+  -- what F asks of its halt
+  pub one : IfErr r F
+
+-- its only fault is that of null
+abbrev pub Checks : ℕ → List ℕ → List ℕ → List ℕ → List ℕ → ℕ → Frame → Answer Thrown Halt → Type 0
+Checks n t cells s g d k r = ChecksBy null_only n t cells s g d k r
 
 module _ (n : ℕ) (t cells s g : List ℕ) (d : ℕ) (k : Frame) where
   abbrev L : Program
@@ -130,7 +135,7 @@ module _ (b : List ℕ) (n : ℕ) (t cells s g : List ℕ) (d : ℕ) (k : Frame)
   parents : Parents (program_now b n t) (front t) 25728 (first_class + n)
   parents = record { count = sym (class-count b n (front t) h.ready.prepared.tables.most); parent = λ c y. h.ready.prepared.tables.parents.at c y }
 
-  pub athrow_throws : (v : Thrown) → Checks n t cells s g d k (Ok v) → (s' g' : List ℕ) (r : Move) → Throws b n t s g s' g' d k used v.object v.class r → Athrows b n t cells s g cells s' g' d k used r
+  pub athrow_throws : {F : Halt → Type 0} (v : Thrown) → ChecksBy F n t cells s g d k (Ok v) → (s' g' : List ℕ) (r : Move) → Throws b n t s g s' g' d k used v.object v.class r → Athrows b n t cells s g cells s' g' d k used r
   athrow_throws v z s' g' r y = record {
     is = λ x u e. y.is cells x u e ∙ z.is (program_now b n t) x used parents e;
     kept = thrown-kept cells s g s' g' used r y.kept;
@@ -139,7 +144,7 @@ module _ (b : List ℕ) (n : ℕ) (t cells s g : List ℕ) (d : ℕ) (k : Frame)
     size = refl;
   }
 
-  pub athrow_halts : (v : Halt) → Checks n t cells s g d k (Err v) → (cells' s' g' : List ℕ) (r : Move) → Faults b n t cells s g cells' s' g' d k used v r → Athrows b n t cells s g cells' s' g' d k used r
+  pub athrow_halts : {F : Halt → Type 0} (v : Halt) → ChecksBy F n t cells s g d k (Err v) → (cells' s' g' : List ℕ) (r : Move) → Faults b n t cells s g cells' s' g' d k used v r → Athrows b n t cells s g cells' s' g' d k used r
   athrow_halts v z cells' s' g' r y = record {
     is = λ x u e. y.is x u e ∙ z.is (program_now b n t) x used parents e;
     kept = y.kept;

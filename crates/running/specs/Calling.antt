@@ -47,16 +47,20 @@ pub record At (t s g cells : List ℕ) (used d : ℕ) (k : Frame) (x : Here) : T
   pub after : x.after ≡ k.offset + 3
 
 -- an instruction's outcome is what the definition says in every such context; the invariant stands wherever the run goes on
-pub record Called (b : List ℕ) (n : ℕ) (t s g cells t' s' g' cells' : List ℕ) (d : ℕ) (k : Frame) (r : Going) (what : Here → Result) : Type 0 where
+pub record CalledBy (F : Halt → Type 0) (b : List ℕ) (n : ℕ) (t s g cells t' s' g' cells' : List ℕ) (d : ℕ) (k : Frame) (r : Going) (what : Here → Result) : Type 0 where
   pub is : (x : Here) (used : ℕ) → At t s g cells used d k x → going_of (program_now b n t) x (heap cells' used) t' records s' g' r ≡ what x
   pub stands : IfOk r (λ o. Standing b n t' s' g' o.depth o.call)
   pub kept : OnErr r ((t' ≡ t) × (s' ≡ s) × (g' ≡ g) × (cells' ≡ cells))
-  -- a call's only fault
-  pub one : IfErr r null_only
+  -- what F asks of its halt
+  pub one : IfErr r F
   pub besides : Besides records 384 t t'
 
-module _ (b : List ℕ) (n : ℕ) (t s g cells : List ℕ) (d : ℕ) (k : Frame) (what : Here → Result) where
-  pub called_halts : (h : Halt) → null_only h → ((x : Here) (used : ℕ) → At t s g cells used d k x → what x ≡ halt_of (program_now b n t) x h) → Called b n t s g cells t s g cells d k (Err h) what
+-- a call's only fault is that of null
+abbrev pub Called : List ℕ → ℕ → List ℕ → List ℕ → List ℕ → List ℕ → List ℕ → List ℕ → List ℕ → List ℕ → ℕ → Frame → Going → (Here → Result) → Type 0
+Called b n t s g cells t' s' g' cells' d k r what = CalledBy null_only b n t s g cells t' s' g' cells' d k r what
+
+module _ {F : Halt → Type 0} (b : List ℕ) (n : ℕ) (t s g cells : List ℕ) (d : ℕ) (k : Frame) (what : Here → Result) where
+  pub called_halts : (h : Halt) → F h → ((x : Here) (used : ℕ) → At t s g cells used d k x → what x ≡ halt_of (program_now b n t) x h) → CalledBy F b n t s g cells t s g cells d k (Err h) what
   called_halts i o h = record {
     is = λ x used a. sym (h x used a);
     stands = tt;
@@ -65,13 +69,14 @@ module _ (b : List ℕ) (n : ℕ) (t s g cells : List ℕ) (d : ℕ) (k : Frame)
     besides = besides_none records 384 t;
   }
 
-  pub called-stuck : ((x : Here) (used : ℕ) → At t s g cells used d k x → what x ≡ stopped stuck) → Called b n t s g cells t s g cells d k (Err Stuck) what
-  called-stuck h = called_halts Stuck tt h
-
   -- the halt that `?` hands on
-  pub called_handed : (r : Going) (h : Halt) → IsErrAnd r (λ z. z ≡ h) → Called b n t s g cells t s g cells d k (Err h) what → Called b n t s g cells t s g cells d k r what
+  pub called_handed : (r : Going) (h : Halt) → IsErrAnd r (λ z. z ≡ h) → CalledBy F b n t s g cells t s g cells d k (Err h) what → CalledBy F b n t s g cells t s g cells d k r what
   called_handed (Ok z) h p s = absurd p
   called_handed (Err z) h p s = rw p s
+
+module _ (b : List ℕ) (n : ℕ) (t s g cells : List ℕ) (d : ℕ) (k : Frame) (what : Here → Result) where
+  pub called-stuck : ((x : Here) (used : ℕ) → At t s g cells used d k x → what x ≡ stopped stuck) → Called b n t s g cells t s g cells d k (Err Stuck) what
+  called-stuck h = called_halts b n t s g cells d k what Stuck tt h
 
   pub called_into : (t' s' g' : List ℕ) (y : Way) (r : Going) → Into b n t s g t' s' g' d k y r
       → ((x : Here) (used : ℕ) → At t s g cells used d k x → what x ≡ enter (program_now b n t) x y.class y.method y.own (args_at s g d y.left y.count) (ops_of (window_at s d) (window_at g d) y.left))

@@ -17,13 +17,14 @@ use Rattle.plain.specs.Windows.{ops_of}
 use Rattle.plain.specs.Calls.{window_at}
 use Rattle.plain.specs.declared.frames.Frame.{Frame}
 use Rattle.plain.specs.CallSteps.{Going}
+use Rattle.plain.specs.declared.window.Halt.{Halt}
 use Rattle.plain.specs.declared.window.Halt.TheVariants.{Stuck}
 use Rattle.running.specs.declared.popping.Popped.{Popped}
 use Rattle.running.specs.Popping.{Taking, taken_of, Pops, kin_of}
-use Rattle.running.specs.Calling.{Called, Calling, entry_at, entry_small, StaticCall, static_by, static_of, static_entry, static_unfit, static_enterable, static_into}
+use Rattle.running.specs.Calling.{Called, CalledBy, Calling, entry_at, entry_small, StaticCall, static_by, static_of, static_entry, static_unfit, static_enterable, static_into}
 use Rattle.running.specs.Receiving.{InitCall, init_by, own-entry, own_unfit}
 use Rattle.running.specs.Virtual.{VirtualCall, virtual_by, virtual_unfit}
-use Rattle.running.specs.Routes.{Route, Routes, routes_on, routes_as}
+use Rattle.running.specs.Routes.{Route, Routes, RoutesBy, routes_on, routes_as}
 
 -- what each of the three asks for
 abbrev pub CallReady : List ℕ → List ℕ → List ℕ → List ℕ → Site → ℕ → Frame → Call → Type 0
@@ -56,43 +57,43 @@ module _ (b t s g : List ℕ) (x : Site) (d : ℕ) (k : Frame) where
   ready_built (Special m) h l = h
   ready_built (Static m) h l = absurd (omega (arith, (static_of b t s g x d k m h).low))
 
-  module _ (cells t' s' g' cells' : List ℕ) (r : Going) where
-    built_by : (i : Call) → CallReady b t s g x d k i → (callee_in i).owner < 11 → Called b x.classes t s g cells t' s' g' cells' d k r (init_by b t s g x d k (callee_in i))
-        → Called b x.classes t s g cells t' s' g' cells' d k r (call_by b t s g x d k i)
+  module _ {F : Halt → Type 0} (cells t' s' g' cells' : List ℕ) (r : Going) where
+    built_by : (i : Call) → CallReady b t s g x d k i → (callee_in i).owner < 11 → CalledBy F b x.classes t s g cells t' s' g' cells' d k r (init_by b t s g x d k (callee_in i))
+        → CalledBy F b x.classes t s g cells t' s' g' cells' d k r (call_by b t s g x d k i)
     unfolding call_by execute
     built_by (Virtual m) h l y = absurd (omega (arith, h.of.low))
     built_by (Special m) h l y = y
     built_by (Static m) h l y = absurd (omega (arith, (static_of b t s g x d k m h).low))
 
-    pub built_called : (i : Call) (m : Callee) → m ≡ callee_in i → CallReady b t s g x d k i → m.owner < 11 → Called b x.classes t s g cells t' s' g' cells' d k r (init_by b t s g x d k m)
-        → Called b x.classes t s g cells t' s' g' cells' d k r (call_by b t s g x d k i)
+    pub built_called : (i : Call) (m : Callee) → m ≡ callee_in i → CallReady b t s g x d k i → m.owner < 11 → CalledBy F b x.classes t s g cells t' s' g' cells' d k r (init_by b t s g x d k m)
+        → CalledBy F b x.classes t s g cells t' s' g' cells' d k r (call_by b t s g x d k i)
     built_called i m e h l y =
-        built_by i h (subst (λ (u : Callee). u.owner < 11) e l) (subst (λ (u : Callee). Called b x.classes t s g cells t' s' g' cells' d k r (init_by b t s g x d k u)) e y)
+        built_by i h (subst (λ (u : Callee). u.owner < 11) e l) (subst (λ (u : Callee). CalledBy F b x.classes t s g cells t' s' g' cells' d k r (init_by b t s g x d k u)) e y)
 
     -- by the variant that the code has before it
     module _ (i : Call) (m : Callee) where
-      virtual_arm : i ≡ Virtual m → Called b x.classes t s g cells t' s' g' cells' d k r (virtual_by b t s g x d k m) → Called b x.classes t s g cells t' s' g' cells' d k r (call_by b t s g x d k i)
+      virtual_arm : i ≡ Virtual m → CalledBy F b x.classes t s g cells t' s' g' cells' d k r (virtual_by b t s g x d k m) → CalledBy F b x.classes t s g cells t' s' g' cells' d k r (call_by b t s g x d k i)
       unfolding call_by execute
-      virtual_arm e h = subst (λ (j : Call). Called b x.classes t s g cells t' s' g' cells' d k r (call_by b t s g x d k j)) (sym e) h
+      virtual_arm e h = subst (λ (j : Call). CalledBy F b x.classes t s g cells t' s' g' cells' d k r (call_by b t s g x d k j)) (sym e) h
 
-      init_arm : i ≡ Special m → Called b x.classes t s g cells t' s' g' cells' d k r (init_by b t s g x d k m) → Called b x.classes t s g cells t' s' g' cells' d k r (call_by b t s g x d k i)
+      init_arm : i ≡ Special m → CalledBy F b x.classes t s g cells t' s' g' cells' d k r (init_by b t s g x d k m) → CalledBy F b x.classes t s g cells t' s' g' cells' d k r (call_by b t s g x d k i)
       unfolding call_by execute
-      init_arm e h = subst (λ (j : Call). Called b x.classes t s g cells t' s' g' cells' d k r (call_by b t s g x d k j)) (sym e) h
+      init_arm e h = subst (λ (j : Call). CalledBy F b x.classes t s g cells t' s' g' cells' d k r (call_by b t s g x d k j)) (sym e) h
 
-      static_arm : i ≡ Static m → Called b x.classes t s g cells t' s' g' cells' d k r (static_by b t s g x d k m) → Called b x.classes t s g cells t' s' g' cells' d k r (call_by b t s g x d k i)
+      static_arm : i ≡ Static m → CalledBy F b x.classes t s g cells t' s' g' cells' d k r (static_by b t s g x d k m) → CalledBy F b x.classes t s g cells t' s' g' cells' d k r (call_by b t s g x d k i)
       unfolding call_by execute
-      static_arm e h = subst (λ (j : Call). Called b x.classes t s g cells t' s' g' cells' d k r (call_by b t s g x d k j)) (sym e) h
+      static_arm e h = subst (λ (j : Call). CalledBy F b x.classes t s g cells t' s' g' cells' d k r (call_by b t s g x d k j)) (sym e) h
 
-  module _ (cells : List ℕ) (q : Route) (i : Call) (m : Callee) where
-    pub virtual_route : i ≡ Virtual m → Routes b x.classes t s g cells d k (virtual_by b t s g x d k m) q → Routes b x.classes t s g cells d k (call_by b t s g x d k i) q
+  module _ {F : Halt → Type 0} (cells : List ℕ) (q : Route) (i : Call) (m : Callee) where
+    pub virtual_route : i ≡ Virtual m → RoutesBy F b x.classes t s g cells d k (virtual_by b t s g x d k m) q → RoutesBy F b x.classes t s g cells d k (call_by b t s g x d k i) q
     virtual_route e h =
         routes_as b x.classes t s g cells d k (virtual_by b t s g x d k m) (call_by b t s g x d k i) (λ t' s' g' r. virtual_arm cells t' s' g' cells r i m e) q h
 
-    pub init_route : i ≡ Special m → Routes b x.classes t s g cells d k (init_by b t s g x d k m) q → Routes b x.classes t s g cells d k (call_by b t s g x d k i) q
+    pub init_route : i ≡ Special m → RoutesBy F b x.classes t s g cells d k (init_by b t s g x d k m) q → RoutesBy F b x.classes t s g cells d k (call_by b t s g x d k i) q
     init_route e h =
         routes_as b x.classes t s g cells d k (init_by b t s g x d k m) (call_by b t s g x d k i) (λ t' s' g' r. init_arm cells t' s' g' cells r i m e) q h
 
-    pub static_route : i ≡ Static m → Routes b x.classes t s g cells d k (static_by b t s g x d k m) q → Routes b x.classes t s g cells d k (call_by b t s g x d k i) q
+    pub static_route : i ≡ Static m → RoutesBy F b x.classes t s g cells d k (static_by b t s g x d k m) q → RoutesBy F b x.classes t s g cells d k (call_by b t s g x d k i) q
     static_route e h =
         routes_as b x.classes t s g cells d k (static_by b t s g x d k m) (call_by b t s g x d k i) (λ t' s' g' r. static_arm cells t' s' g' cells r i m e) q h
 

@@ -84,6 +84,10 @@ unreturned NoRoom = Unit {0}
 unreturned NoDepth = Unit {0}
 unreturned NoWay = Unit {0}
 
+-- no demand on a halt
+abbrev pub any_halt : Halt → Type 0
+any_halt h = Unit {0}
+
 -- of all faults, that of null alone
 abbrev pub null_only : Halt → Type 0
 null_only (Fault c) = c ≡ null_pointer

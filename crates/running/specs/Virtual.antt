@@ -25,13 +25,14 @@ use Rattle.plain.specs.CallSteps.{Going, args_at}
 use Rattle.rules.specs.declared.site.Site.{Site}
 use Rattle.rules.specs.declared.instruction.Callee.{Callee}
 use Rattle.plain.specs.declared.frames.Frame.{Frame}
+use Rattle.plain.specs.declared.window.Halt.{Halt}
 use Rattle.plain.specs.declared.window.Halt.TheVariants.{Fault, Stuck}
 use Rattle.plain.specs.declared.values.Value.{Value}
 use Rattle.running.specs.declared.entering.Way.{Way}
 use Rattle.running.specs.Standing.{Row, method_by, passed}
 use Rattle.running.specs.Popping.{Taking, Pops, kin_of}
 use Rattle.running.specs.Entering.{Enterable, Into}
-use Rattle.running.specs.Calling.{At, Called, called-stuck, called_halts, called_into, Calling, entry_at, params_are, results_are, parents_of, args_fit, stack_is, room_by}
+use Rattle.running.specs.Calling.{At, Called, CalledBy, called-stuck, called_halts, called_into, Calling, entry_at, params_are, results_are, parents_of, args_fit, stack_is, room_by}
 use Rattle.running.specs.Receiving.{args_below, taken_unfit, taken_none, taken_one}
 use Rattle.running.specs.Dispatching.{spot_word, spot_of, Dispatch, Stood, lookup_stood, stood_row, same_params, same_results, below_bundle}
 
@@ -131,9 +132,9 @@ module _ (b t s g : List ℕ) (x : Site) (d : ℕ) (k : Frame) (m : Callee) wher
             room = omega (arith, long, l, stack_is b t s g x d k h.at);
           }
 
-          pub virtual_on : (t' s' g' : List ℕ) (r : Going) (v : Value) → value_of v.tag v.cell ≡ val_at W G (32 + (p.left - 1))
-              → Called b x.classes t s g cells t' s' g' cells d k r (receive_by b t s g x d m (p.left - 1) (p.count + 1) v)
-              → Called b x.classes t s g cells t' s' g' cells d k r what
+          pub virtual_on : {F : Halt → Type 0} (t' s' g' : List ℕ) (r : Going) (v : Value) → value_of v.tag v.cell ≡ val_at W G (32 + (p.left - 1))
+              → CalledBy F b x.classes t s g cells t' s' g' cells d k r (receive_by b t s g x d m (p.left - 1) (p.count + 1) v)
+              → CalledBy F b x.classes t s g cells t' s' g' cells d k r what
           virtual_on t' s' g' r v ev q = record {
             is = λ y used a. q.is y used a ∙ sym (virtual_is y used a ∙ rw (le-leb (length N.results + (p.left - 1)) x.stack (omega (arith, long, l))) (same y));
             stands = q.stands;

@@ -22,7 +22,7 @@ use Rattle.plain.specs.declared.window.Halt.{Halt}
 use Rattle.plain.specs.declared.window.Halt.TheVariants.{Fault, HeapFull, DepthFull, Stuck}
 use Rattle.running.specs.Standing.{records, machine_of, Standing}
 use Rattle.running.specs.Dispatching.{Dispatch, dispatch_kept}
-use Rattle.running.specs.Calling.{Called}
+use Rattle.running.specs.Calling.{CalledBy}
 use Rattle.running.specs.Leaving.{given_of, Leaves}
 use Rattle.running.specs.Throwing.{Move, moved_of, if_stopped, kept_by, unreturned, ending, Faults}
 use Rattle.running.specs.Athrow.{Athrows}
@@ -216,22 +216,22 @@ abbrev pub going_on : ℕ → Going → Answer Move Halt
 going_on used (Ok r) = Ok (Ok (record { depth = r.depth; call = r.call; used = used }))
 going_on used (Err h) = Err h
 
-module _ (b : List ℕ) (n : ℕ) (t s g cells t' s₁ g₁ cells₁ s' g' cells' : List ℕ) (d : ℕ) (k : Frame) (used : ℕ) (m : Move) (what : Here → Result) where
-  called_goes : (r : Going) → Called b n t s g cells t' s₁ g₁ cells₁ d k r what → After b n t' s₁ g₁ cells₁ s' g' cells' d k used (going_on used r) m
+module _ {F : Halt → Type 0} (b : List ℕ) (n : ℕ) (t s g cells t' s₁ g₁ cells₁ s' g' cells' : List ℕ) (d : ℕ) (k : Frame) (used : ℕ) (m : Move) (what : Here → Result) where
+  called_goes : (r : Going) → CalledBy F b n t s g cells t' s₁ g₁ cells₁ d k r what → After b n t' s₁ g₁ cells₁ s' g' cells' d k used (going_on used r) m
       → Does b n t s g cells d k used t' s' g' cells' m (what (here_of t s g cells used d k 3))
   called_goes (Ok r) h y =
       rw (y.by.0, y.by.1, y.by.2, y.by.3) (does_on b n t s g cells d k used _ t' s₁ g₁ cells₁ _ (h.is (here_of t s g cells used d k 3) used (record { runs = here_runs t s g cells used d k 3; heap = refl; after = refl })) h.stands h.besides)
   called_goes (Err i) h y =
       halted_does b n t s g cells d k used 3 i _ (h.is (here_of t s g cells used d k 3) used (record { runs = here_runs t s g cells used d k 3; heap = refl; after = refl })) t' s₁ g₁ cells₁ s' g' cells' m h.kept.0 h.kept.1 h.kept.2 h.kept.3 y.by
 
-  pub called_does : (r : Going) → Called b n t s g cells t' s₁ g₁ cells₁ d k r what → (o : Answer Move Halt) → o ≡ going_on used r
+  pub called_does : (r : Going) → CalledBy F b n t s g cells t' s₁ g₁ cells₁ d k r what → (o : Answer Move Halt) → o ≡ going_on used r
       → After b n t' s₁ g₁ cells₁ s' g' cells' d k used o m → Does b n t s g cells d k used t' s' g' cells' m (what (here_of t s g cells used d k 3))
   called_does r h o e y = called_goes r h (subst (λ (u : Answer Move Halt). After b n t' s₁ g₁ cells₁ s' g' cells' d k used u m) e y)
 
-pub called_lands : (b : List ℕ) (n : ℕ) (t s g cells t' s₁ g₁ cells₁ : List ℕ) (d : ℕ) (k : Frame) (used : ℕ) (r : Going) (what : Here → Result) (o : Answer Move Halt) → o ≡ going_on used r → Called b n t s g cells t' s₁ g₁ cells₁ d k r what
+pub called_lands : {F : Halt → Type 0} (b : List ℕ) (n : ℕ) (t s g cells t' s₁ g₁ cells₁ : List ℕ) (d : ℕ) (k : Frame) (used : ℕ) (r : Going) (what : Here → Result) (o : Answer Move Halt) → o ≡ going_on used r → CalledBy F b n t s g cells t' s₁ g₁ cells₁ d k r what
     → Standing b n t s g d k → length cells ≤ max_heap → length cells₁ ≡ length cells → Lands b n t' s₁ g₁ cells₁ d k o
-called_lands b n t s g cells t' s₁ g₁ cells₁ d k used r what o e h z l q = rw e (go r h)
+called_lands {F = F} b n t s g cells t' s₁ g₁ cells₁ d k used r what o e h z l q = rw e (go r h)
   where
-    go : (r : Going) → Called b n t s g cells t' s₁ g₁ cells₁ d k r what → Lands b n t' s₁ g₁ cells₁ d k (going_on used r)
+    go : (r : Going) → CalledBy F b n t s g cells t' s₁ g₁ cells₁ d k r what → Lands b n t' s₁ g₁ cells₁ d k (going_on used r)
     go (Ok r) y = record { stands = tt; size = omega (arith, l, q) }
     go (Err i) y = record { stands = rw (y.kept.0, y.kept.1, y.kept.2) z; size = omega (arith, l, q) }
